@@ -1,0 +1,33 @@
+use mathlib.Core.Path.{_≡_, refl, sym, ap, _∙_}
+use Rattle.std.proofs.shelf.Tests.{cond-true, cond-false, le-leb, lt-leb}
+use Rattle.books.specs.declared.layout.Link.{Link}
+use Rattle.books.specs.Reading.{book-of}
+use Rattle.books.proofs.Walks.{walk-start, walk-end, walk-spent, walk-order, walk-here, walk-more}
+use Rattle.books.proofs.records.Records.latest_departure.Needs as need
+
+pub loop-holds : need.loop-holds
+loop-holds c = walk-start (book-of (c .args .self .now)) (c .args .link) _ _ tt (c .pre) 0 _ refl (ap (λ (l : Link). l .«first_point») (c .link-at .ensures))
+
+pub back-from-requires : need.back-from-requires
+back-from-requires c κs = record {
+    order = walk-order (book-of (c .args .self .now)) (c .args .link) _ _ _ _ _ (c .loop .inv) _ (c .point-point .ensures) (c .loop-test .taken) (c .if-at-eq0 .left);
+    by = c .loop .inv .holds;
+    late = c .if-tick-point .taken;
+  }
+
+pub returns-then-tick-point : need.returns-then-tick-point
+returns-then-tick-point c =
+    c .back-from .ensures
+    ∙ (sym (cond-false _ _ _ (lt-leb (c .point-point .result .arrival) (c .args .tick) (c .if-tick-point .taken)))
+    ∙ walk-here (book-of (c .args .self .now)) (c .args .link) _ _ _ _ _ (c .loop .inv) _ (c .point-point .ensures) (c .loop-test .taken) (c .if-at-eq0 .left))
+
+pub loop-again : need.loop-again
+loop-again c =
+    walk-more (book-of (c .args .self .now)) (c .args .link) _ _ _ _ _ (c .loop .inv) _ (c .point-point .ensures) (c .loop-test .taken) (c .if-at-eq0 .left) (c .if-tick-point .left)
+    (cond-true _ _ _ (le-leb (c .point-point .result .arrival) (c .args .tick) (c .if-tick-point .left)))
+
+pub returns-then-at-eq0 : need.returns-then-at-eq0
+returns-then-at-eq0 c = c .departure-of .ensures ∙ walk-end (book-of (c .args .self .now)) (c .args .link) _ _ _ _ _ (c .loop .inv) (c .if-at-eq0 .taken)
+
+pub returns : need.returns
+returns c = c .departure-of-2 .ensures ∙ walk-spent (book-of (c .args .self .now)) (c .args .link) _ _ _ _ _ (c .loop .inv) (c .loop-test .left)

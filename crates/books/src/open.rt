@@ -1,0 +1,35 @@
+// Opening a road book.
+ghost use mathlib.Core.Path.{_≡_};
+ghost use mathlib.Core.Bool.{true};
+ghost use mathlib.Core.Logic.{_↔_};
+ghost use Rattle.std.specs.Of.Vec.{vec-items};
+ghost use Rattle.std.specs.Results.{isOk};
+ghost use Rattle.std.specs.Vec.{made};
+ghost use Rattle.books.specs.Book.{book-in};
+ghost use Rattle.books.specs.Faults.{first-fault};
+ghost use Rattle.books.specs.Opened.{open-book, fault-named, words-held};
+ghost use Rattle.books.specs.Rules.{Obeys};
+use crate::checks::Check;
+use crate::fault::Refused;
+use crate::records::Records;
+use crate::road::RoadBook;
+
+// The first word of a road book.
+const ROADS: u32 = 1;
+
+impl RoadBook {
+    // The words as a road book, if they obey every rule of one; else the first fault, and the words again.
+    pub fn open(words: Vec<u32>) -> Result<RoadBook, Refused>
+        ensures accepted { λ r. ⌜ (isOk r ≡ true) ↔ Obeys (vec-items words) ⌝ }
+        ensures book { λ r. ⌜ made r (λ b. open-book b ≡ book-in (vec-items words)) ⌝ }
+        ensures fault { λ r. ⌜ fault-named r ≡ first-fault (vec-items words) ⌝ }
+        ensures words { λ r. ⌜ words-held r ≡ words ⌝ }
+    {
+        let records = Records::read(words, ROADS)?;
+        let checks = [Check::Links, Check::Points, Check::PlaceChains, Check::LinkChains, Check::Roads];
+        if let Some(fault) = records.first_fault(&checks) {
+            return Err(Refused { fault, words: records.words });
+        }
+        Ok(RoadBook { records })
+    }
+}

@@ -1,0 +1,3 @@
+pub mod Rides
+pub mod Arrivals
+pub mod RoadLists

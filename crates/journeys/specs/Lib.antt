@@ -1,0 +1,4 @@
+pub mod Journey
+pub mod Earliest
+pub mod Roads
+pub mod Theorems
