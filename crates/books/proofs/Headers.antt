@@ -13,7 +13,7 @@ use Rattle.books.specs.declared.fault.Cause.the-variants.{Length, Kind, Limits
 use Rattle.books.specs.declared.fault.Record.the-variants.{Header as of-header}
 use Rattle.books.specs.Layout.{kind-in, header-in, Within, within, size}
 use Rattle.books.specs.Rules.{Headed}
-use Rattle.books.specs.Faults.{header-fault}
+use Rattle.books.specs.Faults.{header-fault, size-fault}
 use Rattle.books.proofs.Unless.{fault, passed, caught, unless-none}
 
 pub within-true : (h : Header) → within h ≡ true → Within h
@@ -42,23 +42,39 @@ module _ (kind : ℕ) (words : List ℕ) where
       unfolding header-fault
       outside h = passed _ Length of-header _ (le-leb 5 (length words) long) ∙ (passed _ Kind of-header _ (eq-eqb _ _ same) ∙ caught _ Limits of-header _ h)
 
-      module _ (limits : within (header-in words) ≡ true) where
-        pub not-full : (length words ≡ size (header-in words) → ⊥) → header-fault kind words ≡ fault Length of-header
-        unfolding header-fault
-        not-full h = passed _ Length of-header _ (le-leb 5 (length words) long) ∙ (passed _ Kind of-header _ (eq-eqb _ _ same) ∙ (passed _ Limits of-header _ limits ∙ caught _ Length of-header None (ne-eqb _ _ h)))
+      pub right : within (header-in words) ≡ true → header-fault kind words ≡ None
+      unfolding header-fault
+      right h = passed _ Length of-header _ (le-leb 5 (length words) long) ∙ (passed _ Kind of-header _ (eq-eqb _ _ same) ∙ passed _ Limits of-header None h)
 
-        pub right : length words ≡ size (header-in words) → header-fault kind words ≡ None
-        unfolding header-fault
-        right h = passed _ Length of-header _ (le-leb 5 (length words) long) ∙ (passed _ Kind of-header _ (eq-eqb _ _ same) ∙ (passed _ Limits of-header _ limits ∙ passed _ Length of-header None (eq-eqb _ _ h)))
+-- and what the number of words says
+module _ (words : List ℕ) where
+  pub not-full : (length words ≡ size (header-in words) → ⊥) → size-fault words ≡ fault Length of-header
+  unfolding size-fault
+  not-full h = caught _ Length of-header None (ne-eqb _ _ h)
 
-  pub headed-from-none : header-fault kind words ≡ None → Headed kind words
-  unfolding header-fault
-  headed-from-none e =
-      let p = unless-none _ Length of-header _ e in
-      let q = unless-none _ Kind of-header _ (p .1) in
-      let r = unless-none _ Limits of-header _ (q .1) in
-      let s = unless-none _ Length of-header None (r .1) in
-      record { long = leb-true 5 (length words) (p .0); kind = eqb-true _ _ (q .0); limits = within-true _ (r .0); full = eqb-true _ _ (s .0) }
+  pub full : length words ≡ size (header-in words) → size-fault words ≡ None
+  unfolding size-fault
+  full h = passed _ Length of-header None (eq-eqb _ _ h)
 
-  pub none-from-headed : Headed kind words → header-fault kind words ≡ None
-  none-from-headed h = right (h .long) (h .kind) (true-within _ (h .limits)) (h .full)
+-- what a right header says
+pub record Read (kind : ℕ) (words : List ℕ) : Type 0 where
+  pub long : 5 ≤ length words
+  pub same : kind-in words ≡ kind
+  pub limits : within (header-in words) ≡ true
+
+pub read-from-none : (kind : ℕ) (words : List ℕ) → header-fault kind words ≡ None → Read kind words
+unfolding header-fault
+read-from-none kind words e =
+    let p = unless-none _ Length of-header _ e in
+    let q = unless-none _ Kind of-header _ (p .1) in
+    let r = unless-none _ Limits of-header None (q .1) in
+    record { long = leb-true 5 (length words) (p .0); same = eqb-true _ _ (q .0); limits = r .0 }
+
+pub headed-from-none : (kind : ℕ) (words : List ℕ) → header-fault kind words ≡ None → size-fault words ≡ None → Headed kind words
+unfolding size-fault
+headed-from-none kind words e f =
+    let r = read-from-none kind words e in
+    record { long = r .long; kind = r .same; limits = within-true _ (r .limits); full = eqb-true _ _ (unless-none _ Length of-header None f .0) }
+
+pub none-from-headed : (kind : ℕ) (words : List ℕ) → Headed kind words → (header-fault kind words ≡ None) × (size-fault words ≡ None)
+none-from-headed kind words h = (right kind words (h .long) (h .kind) (true-within _ (h .limits)), full words (h .full))

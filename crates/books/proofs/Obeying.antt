@@ -19,7 +19,7 @@ use Rattle.books.specs.declared.fault.Record.the-variants.{Place as of-place, 
 use Rattle.books.specs.declared.checks.Check.the-variants.{Links, Points, PlaceChains, LinkChains, Roads}
 use Rattle.books.specs.Book.{Book, book-in, chain-of, points-of}
 use Rattle.books.specs.Rules.{Timely, All-timely, Follows, Rising, Road, Well-formed, Obeys}
-use Rattle.books.specs.Faults.{header-fault, link-fault, point-fault, place-chain-fault, link-chain-fault, timely, follows, walk-fault, road-fault, fault-by, first-of, first-by, road-checks, first-fault}
+use Rattle.books.specs.Faults.{header-fault, size-fault, link-fault, point-fault, place-chain-fault, link-chain-fault, timely, follows, walk-fault, road-fault, fault-by, first-of, first-by, road-checks, first-fault}
 use Rattle.books.proofs.Unless.{none-unless, unless-none, else-none, none-else}
 use Rattle.books.proofs.Firsts.{of-none, none-of}
 use Rattle.books.proofs.Headers.{headed-from-none, none-from-headed}
@@ -139,9 +139,12 @@ pub obeys-from-none : (words : List ℕ) → first-fault words ≡ None → Obey
 unfolding first-fault
 obeys-from-none words e =
     let p = else-none (header-fault 1 words) _ e in
-    let r = records-from-none (book-in words) (p .1) in
-    record { header = headed-from-none 1 words (p .0); records = r .0; roads = r .1 }
+    let q = else-none (size-fault words) _ (p .1) in
+    let r = records-from-none (book-in words) (q .1) in
+    record { header = headed-from-none 1 words (p .0) (q .0); records = r .0; roads = r .1 }
 
 pub none-from-obeys : (words : List ℕ) → Obeys words → first-fault words ≡ None
 unfolding first-fault
-none-from-obeys words o = none-else _ _ (none-from-headed 1 words (o .header)) (none-from-records (book-in words) (o .records) (o .roads))
+none-from-obeys words o =
+    let h = none-from-headed 1 words (o .header) in
+    none-else _ _ (h .0) (none-else _ _ (h .1) (none-from-records (book-in words) (o .records) (o .roads)))

@@ -58,12 +58,16 @@ first-from fault k (suc count) = or-else (fault k) (first-from fault (suc k) cou
 abbrev pub first-of : (ℕ → Option Fault) → ℕ → Option Fault
 first-of fault n = first-from fault 1 n
 
+-- the header's five words
 unfoldable pub header-fault : ℕ → List ℕ → Option Fault
 header-fault kind words =
     unless (leb 5 (length words)) Length of-header
     (unless (eqb (kind-in words) kind) Kind of-header
-    (unless (within (header-in words)) Limits of-header
-    (unless (eqb (length words) (size (header-in words))) Length of-header None)))
+    (unless (within (header-in words)) Limits of-header None))
+
+-- the number of all words
+unfoldable pub size-fault : List ℕ → Option Fault
+size-fault words = unless (eqb (length words) (size (header-in words))) Length of-header None
 
 -- a link by itself: its ends, its floor, its first point
 abbrev pub link-fault : Header → ℕ → Link → Option Fault
@@ -131,4 +135,4 @@ road-checks = Links ∷ Points ∷ PlaceChains ∷ LinkChains ∷ Roads ∷ []
 
 -- The first fault of words read as a road book.
 unfoldable pub first-fault : List ℕ → Option Fault
-first-fault words = or-else (header-fault 1 words) (first-by (book-in words) road-checks)
+first-fault words = or-else (header-fault 1 words) (or-else (size-fault words) (first-by (book-in words) road-checks))

@@ -1,10 +1,11 @@
-// The header's five words.
+// The header's five words, and the number of words that it asks for.
 ghost use mathlib.Core.Path.{_≡_};
+ghost use lib.ListN.{drop};
 ghost use Rattle.std.specs.Of.Vec.{vec-items};
 ghost use Rattle.std.specs.declared.option.Option.the-variants.{None, Some};
-ghost use Rattle.std.specs.declared.result.Result.the-variants.{Ok, Err};
+ghost use Rattle.std.specs.Results.{Cases};
 ghost use Rattle.books.specs.Layout.{header-in, within, size};
-ghost use Rattle.books.specs.Faults.{header-fault};
+ghost use Rattle.books.specs.Faults.{header-fault, size-fault, or-else};
 use crate::fault::Cause;
 use crate::fault::Fault;
 use crate::fault::Record;
@@ -31,35 +32,38 @@ impl Header {
         5 + 2 * self.places as usize + 6 * self.links as usize + 3 * self.points as usize
     }
 
-    // The header of a book of this kind, or what is wrong with it.
-    pub(crate) fn read(words: &[u32], kind: u32) -> Result<Header, Cause>
-        ensures { λ r. ⌜ elim r [ Ok h ↦ (header-fault kind (now (words .entry)) ≡ None) × (h ≡ header-in (now (words .entry))) | Err c ↦ header-fault kind (now (words .entry)) ≡ Some (record { cause = c; at = Record.Header }) ] ⌝ }
+    // The header of a book of this kind and the words after it, or what is wrong with the header.
+    pub(crate) fn split(words: &[u32], kind: u32) -> Result<(Header, &[u32]), Fault>
+        ensures { λ r. ⌜ Cases r (λ x. (header-fault kind (now (words .entry)) ≡ None) × (x .0 ≡ header-in (now (words .entry))) × (now (x .1) ≡ drop 5 (now (words .entry)))) (λ f. header-fault kind (now (words .entry)) ≡ Some f) ⌝ }
     {
         let [first, places, links, points, last, rest @ ..] = words else {
-            return Err(Cause::Length);
+            return Err(Fault { cause: Cause::Length, at: Record::Header });
         };
         if *first != kind {
-            return Err(Cause::Kind);
+            return Err(Fault { cause: Cause::Kind, at: Record::Header });
         }
         let header = Header { places: *places, links: *links, points: *points, last: *last };
         if !header.within_limits() {
-            return Err(Cause::Limits);
+            return Err(Fault { cause: Cause::Limits, at: Record::Header });
         }
-        if 5 + rest.len() != header.size() {
-            return Err(Cause::Length);
-        }
-        Ok(header)
+        Ok((header, rest))
     }
 }
 
 impl Records {
     // The words behind a right header of this kind, or the fault and the words again.
     pub(crate) fn read(words: Vec<u32>, kind: u32) -> Result<Records, Refused>
-        ensures { λ r. ⌜ elim r [ Ok s ↦ (header-fault kind (vec-items words) ≡ None) × (s .words ≡ words) | Err e ↦ (header-fault kind (vec-items words) ≡ Some (e .fault)) × (e .words ≡ words) ] ⌝ }
+        ensures { λ r. ⌜ Cases r (λ s. (or-else (header-fault kind (vec-items words)) (size-fault (vec-items words)) ≡ None) × (s .words ≡ words)) (λ e. (or-else (header-fault kind (vec-items words)) (size-fault (vec-items words)) ≡ Some (e .fault)) × (e .words ≡ words)) ⌝ }
     {
-        match Header::read(words.as_slice(), kind) {
-            Err(cause) => Err(Refused { fault: Fault { cause, at: Record::Header }, words }),
-            Ok(header) => Ok(Records { words, header }),
-        }
+        let header = match Header::split(words.as_slice(), kind) {
+            Err(fault) => return Err(Refused { fault, words }),
+            Ok((header, rest)) => {
+                if 5 + rest.len() != header.size() {
+                    return Err(Refused { fault: Fault { cause: Cause::Length, at: Record::Header }, words });
+                }
+                header
+            }
+        };
+        Ok(Records { words, header })
     }
 }

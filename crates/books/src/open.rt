@@ -3,14 +3,18 @@ ghost use mathlib.Core.Path.{_≡_};
 ghost use mathlib.Core.Bool.{true};
 ghost use mathlib.Core.Logic.{_↔_};
 ghost use Rattle.std.specs.Of.Vec.{vec-items};
-ghost use Rattle.std.specs.Results.{isOk};
+ghost use Rattle.std.specs.Results.{Cases, isOk};
+ghost use Rattle.std.specs.declared.option.Option.the-variants.{None, Some};
 ghost use Rattle.std.specs.Vec.{made};
 ghost use Rattle.books.specs.Book.{book-in};
-ghost use Rattle.books.specs.Faults.{first-fault};
+ghost use Rattle.books.specs.Faults.{header-fault, first-fault};
+ghost use Rattle.books.specs.Layout.{header-in};
 ghost use Rattle.books.specs.Opened.{open-book, fault-named, words-held};
 ghost use Rattle.books.specs.Rules.{Obeys};
 use crate::checks::Check;
+use crate::fault::Fault;
 use crate::fault::Refused;
+use crate::layout::Header;
 use crate::records::Records;
 use crate::road::RoadBook;
 
@@ -18,6 +22,14 @@ use crate::road::RoadBook;
 const ROADS: u32 = 1;
 
 impl RoadBook {
+    // What the first five words say, or what is wrong with them. The number of words after them isn't judged.
+    pub fn header(words: &[u32]) -> Result<Header, Fault>
+        ensures { λ r. ⌜ Cases r (λ h. (header-fault 1 (now (words .entry)) ≡ None) × (h ≡ header-in (now (words .entry)))) (λ f. header-fault 1 (now (words .entry)) ≡ Some f) ⌝ }
+    {
+        let (header, _) = Header::split(words, ROADS)?;
+        Ok(header)
+    }
+
     // The words as a road book, if they obey every rule of one; else the first fault, and the words again.
     pub fn open(words: Vec<u32>) -> Result<RoadBook, Refused>
         ensures accepted { λ r. ⌜ (isOk r ≡ true) ↔ Obeys (vec-items words) ⌝ }

@@ -14,7 +14,7 @@ use Rattle.std.proofs.shelf.Results.{err-from-errBy}
 use Rattle.books.specs.declared.fault.Fault.{Fault}
 use Rattle.books.specs.declared.records.Records.{Records}
 use Rattle.books.specs.Book.{book-in}
-use Rattle.books.specs.Faults.{header-fault, first-by, road-checks, first-fault}
+use Rattle.books.specs.Faults.{or-else, header-fault, size-fault, first-by, road-checks, first-fault}
 use Rattle.books.specs.Reading.{book-of}
 use Rattle.books.specs.Rules.{Obeys}
 use Rattle.books.proofs.Unless.{or-first, or-next}
@@ -29,14 +29,19 @@ not-obeyed words f e = ((λ z. absurd (false≢true z)), (λ o. absurd (let n = 
 obeyed : (words : List ℕ) → first-fault words ≡ None → (true ≡ true) ↔ Obeys words
 obeyed words e = ((λ _. obeys-from-none words e), (λ _. refl))
 
-header-first : (words : List ℕ) (f : Fault) → header-fault 1 words ≡ Some f → first-fault words ≡ Some f
-unfolding first-fault
-header-first words f e = or-first _ _ f e
+-- what comes after two parts of the first fault
+or-or : (a b c : Option Fault) → or-else a (or-else b c) ≡ or-else (or-else a b) c
+or-or None b c = refl
+or-or (Some f) b c = refl
 
--- once the header is right, the first fault is that of the records
-records-first : (r : Records) (words : Vec ℕ Global) (o : Option Fault) → r .words ≡ words → header-fault 1 (vec-items words) ≡ None → o ≡ first-by (book-of r) road-checks → first-fault (vec-items words) ≡ o
+header-first : (words : List ℕ) (f : Fault) → or-else (header-fault 1 words) (size-fault words) ≡ Some f → first-fault words ≡ Some f
 unfolding first-fault
-records-first r words o e h f = or-next _ _ h ∙ sym (f ∙ ap (λ b. first-by b road-checks) (same-book r ∙ ap (λ w. book-in (vec-items w)) e))
+header-first words f e = or-or (header-fault 1 words) (size-fault words) _ ∙ or-first _ _ f e
+
+-- once the header and the number of words are right, the first fault is that of the records
+records-first : (r : Records) (words : Vec ℕ Global) (o : Option Fault) → r .words ≡ words → or-else (header-fault 1 (vec-items words)) (size-fault (vec-items words)) ≡ None → o ≡ first-by (book-of r) road-checks → first-fault (vec-items words) ≡ o
+unfolding first-fault
+records-first r words o e h f = or-or (header-fault 1 (vec-items words)) (size-fault (vec-items words)) _ ∙ (or-next _ _ h ∙ sym (f ∙ ap (λ b. first-by b road-checks) (same-book r ∙ ap (λ w. book-in (vec-items w)) e)))
 
 pub returns-in-Break-records : need.returns-in-Break-records
 returns-in-Break-records c =
