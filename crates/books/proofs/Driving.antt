@@ -61,13 +61,13 @@ along-fifo before [] s t r h = tt
 along-fifo before (q ∷ qs) s t r h =
     cond-both (leb s (q .departure)) (Some (up-to before q s)) (along (Some q) qs s) (λ o. NoLater o (along before (q ∷ qs) t))
     (λ es.
-      cond-both (leb t (q .departure)) (Some (up-to before q t)) (along (Some q) qs t) (NoLater (Some (up-to before q s)))
-      (λ et. up-to-more before q s t (r .0) h)
-      (λ et. no-later-trans (Some (up-to before q s)) (Some (q .arrival)) _ (up-to-high before q s (r .0) (leb-true s (q .departure) es)) (along-above q qs t (r .1))))
+    cond-both (leb t (q .departure)) (Some (up-to before q t)) (along (Some q) qs t) (NoLater (Some (up-to before q s)))
+    (λ et. up-to-more before q s t (r .0) h)
+    (λ et. no-later-trans (Some (up-to before q s)) (Some (q .arrival)) _ (up-to-high before q s (r .0) (leb-true s (q .departure) es)) (along-above q qs t (r .1))))
     (λ es.
-      cond-both (leb t (q .departure)) (Some (up-to before q t)) (along (Some q) qs t) (NoLater (along (Some q) qs s))
-      (λ et. absurd (let sq = leb-false s (q .departure) es in let tq = leb-true t (q .departure) et in omega arith))
-      (λ et. along-fifo (Some q) qs s t (r .1) h))
+    cond-both (leb t (q .departure)) (Some (up-to before q t)) (along (Some q) qs t) (NoLater (along (Some q) qs s))
+    (λ et. absurd (let sq = leb-false s (q .departure) es in let tq = leb-true t (q .departure) et in omega arith))
+    (λ et. along-fifo (Some q) qs s t (r .1) h))
 
 -- a later departure never arrives earlier
 pub road-fifo : (ps : List Point) → Road ps → (s t : ℕ) → s ≤ t → NoLater (road ps s) (road ps t)
@@ -99,18 +99,19 @@ along-exact before [] a d r l h = ((λ n. absurd n), none-left before d h)
 along-exact before (q ∷ qs) a d r l h =
     cond-both (leb (q .arrival) a) (back-along (Some q) qs a) (back-from before q a) (λ o. NoLater (along before (q ∷ qs) d) (Some a) ↔ NotBefore d o)
     (λ ea.
-      let qa = leb-true (q .arrival) a ea in
-      cond-both (leb d (q .departure)) (Some (up-to before q d)) (along (Some q) qs d) (λ o. NoLater o (Some a) ↔ NotBefore d (back-along (Some q) qs a))
-      (λ ed. let qd = leb-true d (q .departure) ed in ((λ _. not-before-less d (q .departure) _ qd (back-along-low q qs a (r .1))), (λ _. le-trans (up-to-high before q d (r .0) qd) qa)))
-      (λ ed. along-exact (Some q) qs a d (r .1) qa (leb-false d (q .departure) ed)))
+    let qa = leb-true (q .arrival) a ea in
+    cond-both (leb d (q .departure)) (Some (up-to before q d)) (along (Some q) qs d) (λ o. NoLater o (Some a) ↔ NotBefore d (back-along (Some q) qs a))
+    (λ ed. let qd = leb-true d (q .departure) ed in ((λ _. not-before-less d (q .departure) _ qd (back-along-low q qs a (r .1))), (λ _. le-trans (up-to-high before q d (r .0) qd) qa)))
+    (λ ed. along-exact (Some q) qs a d (r .1) qa (leb-false d (q .departure) ed)))
     (λ ea.
-      let qa = leb-false (q .arrival) a ea in
-      cond-both (leb d (q .departure)) (Some (up-to before q d)) (along (Some q) qs d) (λ o. NoLater o (Some a) ↔ NotBefore d (back-from before q a))
-      (λ ed. back-from-exact before q a d (r .0) l qa)
-      (λ ed.
-        let qd = leb-false d (q .departure) ed in
-        ( (λ n. absurd (let m : q .arrival ≤ a = no-later-trans (Some (q .arrival)) _ (Some a) (along-above q qs d (r .1)) n in omega arith))
-        , (λ n. absurd (let m = back-from-high before q a d (r .0) l qa n in omega arith)) )))
+    let qa = leb-false (q .arrival) a ea in
+    cond-both (leb d (q .departure)) (Some (up-to before q d)) (along (Some q) qs d) (λ o. NoLater o (Some a) ↔ NotBefore d (back-from before q a))
+    (λ ed. back-from-exact before q a d (r .0) l qa)
+    (λ ed.
+    let qd = leb-false d (q .departure) ed in (
+      (λ n. absurd (let m : q .arrival ≤ a = no-later-trans (Some (q .arrival)) _ (Some a) (along-above q qs d (r .1)) n in omega arith)),
+      (λ n. absurd (let m = back-from-high before q a d (r .0) l qa n in omega arith)),
+    )))
 
 -- departing at d arrives by a exactly when d is no later than the latest departure that is computed
 pub road-exact : (ps : List Point) (a d : ℕ) → Road ps → NoLater (road ps d) (Some a) ↔ NotBefore d (road-back ps a)
@@ -127,13 +128,16 @@ back-is-latest b k a ts r h = one-greatest (road-network b .arrival k) a (suc la
   where
     last : ℕ
     last = b .header .last
+
     ps : List Point
     ps = points-of b k
+
     computed : Greatest (road-network b .arrival k) a (suc last) (road-back ps a)
     computed =
-        record
-        { fits = λ x e.
-            let by = road-exact ps a x r .1 (subst (NotBefore x) (sym e) (omega arith)) in
-            let l = by-within x (b .link k .floor) last a (road ps x) h (road-between (b .link k .floor) last ps ts r x) by in
-            (omega arith, subst (λ t. NoLater (cond t (road ps x) None) (Some a)) (sym (le-leb x last l)) by)
-        ; most = λ d l n. road-exact ps a d r .0 (subst (λ t. NoLater (cond t (road ps d) None) (Some a)) (le-leb d last (omega arith)) n) }
+        record {
+          fits = λ x e.
+              let by = road-exact ps a x r .1 (subst (NotBefore x) (sym e) (omega arith)) in
+              let l = by-within x (b .link k .floor) last a (road ps x) h (road-between (b .link k .floor) last ps ts r x) by in
+              (omega arith, subst (λ t. NoLater (cond t (road ps x) None) (Some a)) (sym (le-leb x last l)) by);
+          most = λ d l n. road-exact ps a d r .0 (subst (λ t. NoLater (cond t (road ps d) None) (Some a)) (le-leb d last (omega arith)) n);
+        }

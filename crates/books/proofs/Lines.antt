@@ -31,9 +31,10 @@ part-top r s w h = let l : r * s ≤ w * s = mul-le-mul-right s h in div-le-of-l
 
 -- m of s parts of w are below r exactly when m is at most the quotient that goes back from r
 parts : (m w s r : ℕ) → 0 < w → 0 < s → 0 < r → ((m * w) / s < r) ↔ (m ≤ (r * s - 1) / w)
-parts m w s r hw hs hr =
-    ( (λ h. let l = div-lt-iff-lt-mul hs .0 h in le-div-iff-mul-le hw .1 (omega arith))
-    , (λ h. let l = le-div-iff-mul-le hw .0 h in let one : 1 * s ≤ r * s = mul-le-mul-right s hr in div-lt-iff-lt-mul hs .1 (omega arith)) )
+parts m w s r hw hs hr = (
+  (λ h. let l = div-lt-iff-lt-mul hs .0 h in le-div-iff-mul-le hw .1 (omega arith)),
+  (λ h. let l = le-div-iff-mul-le hw .0 h in let one : 1 * s ≤ r * s = mul-le-mul-right s hr in div-lt-iff-lt-mul hs .1 (omega arith)),
+)
 
 module _ (p q : Point) (f : Follows (Some p) q) where
   pub between-low : (floor t : ℕ) → p .departure + floor ≤ p .arrival → q .departure + floor ≤ q .arrival → t ≤ q .departure → t + floor ≤ between p q t

@@ -58,9 +58,9 @@ none-from-point : (h : Header) (i : ℕ) (p : Point) → Next-obeys h i p → po
 none-from-point h i p o =
     none-unless _ PointIndex (of-point i) None
     (⊎-elim
-      (λ z. and-from _ _ (or-left _ (ltb i (p .next)) (eq-eqb (p .next) 0 z)) (le-leb (p .next) (h .points) (omega arith)))
-      (λ z. let n = o (omega arith) in and-from _ _ (or-right (eqb (p .next) 0) _ (lt-ltb i (p .next) (n .0))) (le-leb (p .next) (h .points) (n .1)))
-      (cases-eq (p .next) 0))
+    (λ z. and-from _ _ (or-left _ (ltb i (p .next)) (eq-eqb (p .next) 0 z)) (le-leb (p .next) (h .points) (omega arith)))
+    (λ z. let n = o (omega arith) in and-from _ _ (or-right (eqb (p .next) 0) _ (lt-ltb i (p .next) (n .0))) (le-leb (p .next) (h .points) (n .1)))
+    (cases-eq (p .next) 0))
     refl
 
 -- the points along a chain
@@ -111,8 +111,8 @@ records-from-none b e =
     let links : (k : ℕ) → Among k (b .header .links) → Link-obeys (b .header) (b .link k) = λ k h. link-from-none (b .header) k (b .link k) (of-none (fault-by b Links) _ (p .0) k h) in
     let places : (v : ℕ) → Among v (b .header .places) → place-chain-fault b v ≡ None = of-none (fault-by b PlaceChains) _ (r .0) in
     let nexts : (k : ℕ) → Among k (b .header .links) → link-chain-fault b k ≡ None = of-none (fault-by b LinkChains) _ (s .0) in
-    let walks : (k : ℕ) → Among k (b .header .links) → road-fault b k ≡ None = of-none (fault-by b Roads) _ (t .0) in
-    ( record {
+    let walks : (k : ℕ) → Among k (b .header .links) → road-fault b k ≡ None = of-none (fault-by b Roads) _ (t .0) in (
+      record {
         tails = λ k h. links k h .tail;
         heads = λ k h. links k h .head;
         floors = λ k h. links k h .floor;
@@ -123,8 +123,9 @@ records-from-none b e =
         next-outs = λ k h. eqb-true _ _ (and-parts _ _ (unless-none _ Chain (of-link k) None (nexts k h) .0) .0);
         next-ins = λ k h. eqb-true _ _ (and-parts _ _ (unless-none _ Chain (of-link k) None (nexts k h) .0) .1);
         times = λ k h. walk-from-none b k None (chain-of b k) (walks k h) .0;
-      }
-    , (λ k h. walk-from-none b k None (chain-of b k) (walks k h) .1) )
+      },
+      (λ k h. walk-from-none b k None (chain-of b k) (walks k h) .1),
+    )
 
 none-from-records : (b : Book) → Well-formed b → Roads-obey b → first-by b road-checks ≡ None
 unfolding fault-by

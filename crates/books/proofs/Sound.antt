@@ -91,22 +91,22 @@ module _ (b : Book) (s : Sound b) where
 
   pub laws : Laws (road-network b)
   laws = record {
-      places = s .limits .places;
-      links = omega (arith, s .limits .links);
-      last = s .limits .last;
-      tail = s .records .tails;
-      head = s .records .heads;
-      floor = s .records .floors;
-      arrival = λ k t l h. subst (Between (t + b .link k .floor) (b .header .last)) (at-tick k t h) (road-between (b .link k .floor) (b .header .last) (points-of b k) (is-timely k) (is-road k) t);
-      fifo = λ k x t l h m. subst (NoLater (road-network b .arrival k x)) (at-tick k t m) (subst (λ o. NoLater o (road (points-of b k) t)) (at-tick k x (omega arith)) (road-fifo (points-of b k) (is-road k) x t h));
-      no-link = λ k h. record {
-        tail = ap (λ (l : Link). l .tail) (s .no-link k h);
-        head = ap (λ (l : Link). l .head) (s .no-link k h);
-        floor = ap (λ (l : Link). l .floor) (s .no-link k h);
-        arrival = λ t. cond-both (leb t (b .header .last)) (road (points-of b k) t) None (λ o. o ≡ None) (λ _. ap (λ ps. road ps t) (no-points k h)) (λ _. refl);
-      };
-      no-tick = λ k t h. cond-false _ _ _ (lt-leb t (b .header .last) h);
-    }
+    places = s .limits .places;
+    links = omega (arith, s .limits .links);
+    last = s .limits .last;
+    tail = s .records .tails;
+    head = s .records .heads;
+    floor = s .records .floors;
+    arrival = λ k t l h. subst (Between (t + b .link k .floor) (b .header .last)) (at-tick k t h) (road-between (b .link k .floor) (b .header .last) (points-of b k) (is-timely k) (is-road k) t);
+    fifo = λ k x t l h m. subst (NoLater (road-network b .arrival k x)) (at-tick k t m) (subst (λ o. NoLater o (road (points-of b k) t)) (at-tick k x (omega arith)) (road-fifo (points-of b k) (is-road k) x t h));
+    no-link = λ k h. record {
+      tail = ap (λ (l : Link). l .tail) (s .no-link k h);
+      head = ap (λ (l : Link). l .head) (s .no-link k h);
+      floor = ap (λ (l : Link). l .floor) (s .no-link k h);
+      arrival = λ t. cond-both (leb t (b .header .last)) (road (points-of b k) t) None (λ o. o ≡ None) (λ _. ap (λ ps. road ps t) (no-points k h)) (λ _. refl);
+    };
+    no-tick = λ k t h. cond-false _ _ _ (lt-leb t (b .header .last) h);
+  }
 
   -- the chains of links
   first-found : (end : End) (v found : ℕ) → (Among v (b .header .places) → found ≡ lowest-after b end v 0) → ((Among v (b .header .places) → ⊥) → found ≡ 0) → found ≡ first (road-network b) (λ k. end-of end (b .link k)) v

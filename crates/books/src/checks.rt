@@ -29,13 +29,22 @@ impl Link {
     {
         let at = Record::Link(number);
         if !among(self.tail, header.places) || !among(self.head, header.places) {
-            return Some(Fault { cause: Cause::Ends, at });
+            return Some(Fault {
+                cause: Cause::Ends,
+                at,
+            });
         }
         if !among(self.floor, header.last) {
-            return Some(Fault { cause: Cause::Floor, at });
+            return Some(Fault {
+                cause: Cause::Floor,
+                at,
+            });
         }
         if !among(self.first_point, header.points) {
-            return Some(Fault { cause: Cause::PointIndex, at });
+            return Some(Fault {
+                cause: Cause::PointIndex,
+                at,
+            });
         }
         None
     }
@@ -46,7 +55,10 @@ impl Point {
         ensures { λ r. ⌜ r ≡ point-fault (now (header .entry)) number (now (self .entry)) ⌝ }
     {
         if self.next > header.points || (self.next != 0 && self.next <= number) {
-            return Some(Fault { cause: Cause::PointIndex, at: Record::Point(number) });
+            return Some(Fault {
+                cause: Cause::PointIndex,
+                at: Record::Point(number),
+            });
         }
         None
     }
@@ -55,7 +67,10 @@ impl Point {
     fn timely(&self, floor: u32, last: u32) -> bool
         ensures { λ r. ⌜ r ≡ timely floor last (now (self .entry)) ⌝ }
     {
-        self.departure <= last && self.arrival <= last && self.departure <= self.arrival && floor <= self.arrival - self.departure
+        self.departure <= last
+            && self.arrival <= last
+            && self.departure <= self.arrival
+            && floor <= self.arrival - self.departure
     }
 
     // Whether it departs after the point before, if there is one, and arrives no earlier.
@@ -74,8 +89,13 @@ impl Records {
         ensures { λ r. ⌜ r ≡ place-chain-fault (book-of (now (self .entry))) number ⌝ }
     {
         let place = self.place(number);
-        if place.first_out != self.lowest(End::Tail, number, 0) || place.first_in != self.lowest(End::Head, number, 0) {
-            return Some(Fault { cause: Cause::Chain, at: Record::Place(number) });
+        if place.first_out != self.lowest(End::Tail, number, 0)
+            || place.first_in != self.lowest(End::Head, number, 0)
+        {
+            return Some(Fault {
+                cause: Cause::Chain,
+                at: Record::Place(number),
+            });
         }
         None
     }
@@ -84,8 +104,13 @@ impl Records {
         ensures { λ r. ⌜ r ≡ link-chain-fault (book-of (now (self .entry))) number ⌝ }
     {
         let link = self.link(number);
-        if link.next_out != self.lowest(End::Tail, link.tail, number) || link.next_in != self.lowest(End::Head, link.head, number) {
-            return Some(Fault { cause: Cause::Chain, at: Record::Link(number) });
+        if link.next_out != self.lowest(End::Tail, link.tail, number)
+            || link.next_in != self.lowest(End::Head, link.head, number)
+        {
+            return Some(Fault {
+                cause: Cause::Chain,
+                at: Record::Link(number),
+            });
         }
         None
     }
@@ -103,10 +128,16 @@ impl Records {
             }
             let point = self.point(at);
             if !point.timely(link.floor, self.header.last) {
-                return Some(Fault { cause: Cause::Time { link: number }, at: Record::Point(at) });
+                return Some(Fault {
+                    cause: Cause::Time { link: number },
+                    at: Record::Point(at),
+                });
             }
             if !point.follows(&before) {
-                return Some(Fault { cause: Cause::Order { link: number }, at: Record::Point(at) });
+                return Some(Fault {
+                    cause: Cause::Order { link: number },
+                    at: Record::Point(at),
+                });
             }
             before = Some(point);
             at = point.next;

@@ -33,7 +33,7 @@ pub struct Fault {
 }
 
 // The fault of a book that was refused, and its words as they were handed over.
-#[derive(Drop)]
+#[derive(Drop, Debug)]
 pub struct Refused {
     pub fault: Fault,
     pub words: Vec<u32>,
@@ -72,15 +72,27 @@ impl Record {
 pub impl fmt::Display for Cause as CauseDisplay {
     fn fmt<W: fmt::Write>(&self, f: &mut fmt::Formatter<W>) -> fmt::Result {
         match self {
-            Cause::Length => write!(f, "the number of words is not the one that the header gives"),
+            Cause::Length => write!(
+                f,
+                "the number of words is not the one that the header gives"
+            ),
             Cause::Kind => write!(f, "this is no road book"),
             Cause::Limits => write!(f, "a number of the header is outside its limits"),
-            Cause::Chain => write!(f, "a chain of links does not go by the lowest link that is left"),
+            Cause::Chain => write!(
+                f,
+                "a chain of links does not go by the lowest link that is left"
+            ),
             Cause::Ends => write!(f, "its tail or its head is no place"),
             Cause::Floor => write!(f, "its floor is not from 1 to the last tick"),
             Cause::PointIndex => write!(f, "it names a point that may not come there"),
-            Cause::Time { link } => write!(f, "on the chain of link {link}, a time is above the last tick or under the departure plus the floor"),
-            Cause::Order { link } => write!(f, "on the chain of link {link}, it does not depart later than the point before and arrive no earlier"),
+            Cause::Time { link } => write!(
+                f,
+                "on the chain of link {link}, a time is above the last tick or under the departure plus the floor"
+            ),
+            Cause::Order { link } => write!(
+                f,
+                "on the chain of link {link}, it does not depart later than the point before and arrive no earlier"
+            ),
         }
     }
 }

@@ -37,14 +37,28 @@ impl Header {
         ensures { λ r. ⌜ Cases r (λ x. (header-fault kind (now (words .entry)) ≡ None) × (x .0 ≡ header-in (now (words .entry))) × (now (x .1) ≡ drop 5 (now (words .entry)))) (λ f. header-fault kind (now (words .entry)) ≡ Some f) ⌝ }
     {
         let [first, places, links, points, last, rest @ ..] = words else {
-            return Err(Fault { cause: Cause::Length, at: Record::Header });
+            return Err(Fault {
+                cause: Cause::Length,
+                at: Record::Header,
+            });
         };
         if *first != kind {
-            return Err(Fault { cause: Cause::Kind, at: Record::Header });
+            return Err(Fault {
+                cause: Cause::Kind,
+                at: Record::Header,
+            });
         }
-        let header = Header { places: *places, links: *links, points: *points, last: *last };
+        let header = Header {
+            places: *places,
+            links: *links,
+            points: *points,
+            last: *last,
+        };
         if !header.within_limits() {
-            return Err(Fault { cause: Cause::Limits, at: Record::Header });
+            return Err(Fault {
+                cause: Cause::Limits,
+                at: Record::Header,
+            });
         }
         Ok((header, rest))
     }
@@ -59,7 +73,13 @@ impl Records {
             Err(fault) => return Err(Refused { fault, words }),
             Ok((header, rest)) => {
                 if 5 + rest.len() != header.size() {
-                    return Err(Refused { fault: Fault { cause: Cause::Length, at: Record::Header }, words });
+                    return Err(Refused {
+                        fault: Fault {
+                            cause: Cause::Length,
+                            at: Record::Header,
+                        },
+                        words,
+                    });
                 }
                 header
             }

@@ -38,9 +38,18 @@ impl RoadBook {
         ensures words { λ r. ⌜ words-held r ≡ words ⌝ }
     {
         let records = Records::read(words, ROADS)?;
-        let checks = [Check::Links, Check::Points, Check::PlaceChains, Check::LinkChains, Check::Roads];
+        let checks = [
+            Check::Links,
+            Check::Points,
+            Check::PlaceChains,
+            Check::LinkChains,
+            Check::Roads,
+        ];
         if let Some(fault) = records.first_fault(&checks) {
-            return Err(Refused { fault, words: records.words });
+            return Err(Refused {
+                fault,
+                words: records.words,
+            });
         }
         Ok(RoadBook { records })
     }

@@ -21,18 +21,31 @@ impl Records {
         ensures { λ r. ⌜ r ≡ book-of (now (self .entry)) .place number ⌝ }
     {
         if !among(number, self.header.places) {
-            return Place { first_out: 0, first_in: 0 };
+            return Place {
+                first_out: 0,
+                first_in: 0,
+            };
         }
         let words = self.words.as_slice();
         let at = 5 + 2 * (number as usize - 1);
-        Place { first_out: words[at], first_in: words[at + 1] }
+        Place {
+            first_out: words[at],
+            first_in: words[at + 1],
+        }
     }
 
     pub(crate) fn link(&self, number: u32) -> Link
         ensures { λ r. ⌜ r ≡ book-of (now (self .entry)) .link number ⌝ }
     {
         if !among(number, self.header.links) {
-            return Link { tail: 0, head: 0, next_out: 0, next_in: 0, floor: 0, first_point: 0 };
+            return Link {
+                tail: 0,
+                head: 0,
+                next_out: 0,
+                next_in: 0,
+                floor: 0,
+                first_point: 0,
+            };
         }
         let words = self.words.as_slice();
         let at = 5 + 2 * self.header.places as usize + 6 * (number as usize - 1);
@@ -50,11 +63,22 @@ impl Records {
         ensures { λ r. ⌜ r ≡ book-of (now (self .entry)) .point number ⌝ }
     {
         if !among(number, self.header.points) {
-            return Point { departure: 0, arrival: 0, next: 0 };
+            return Point {
+                departure: 0,
+                arrival: 0,
+                next: 0,
+            };
         }
         let words = self.words.as_slice();
-        let at = 5 + 2 * self.header.places as usize + 6 * self.header.links as usize + 3 * (number as usize - 1);
-        Point { departure: words[at], arrival: words[at + 1], next: words[at + 2] }
+        let at = 5
+            + 2 * self.header.places as usize
+            + 6 * self.header.links as usize
+            + 3 * (number as usize - 1);
+        Point {
+            departure: words[at],
+            arrival: words[at + 1],
+            next: words[at + 2],
+        }
     }
 
     // The lowest link after link `after` that has this end at the place, or 0.

@@ -47,13 +47,16 @@ tried-falls last found h y l b = go (at found h) refl y b
   where
     Goal : Option ℕ → Option ℕ → Type 0
     Goal x y = (NoLater x y × (set found h (earlier x y) ≡ found)) ⊎ (total last (set found h (earlier x y)) < total last found)
+
     same : (x : Option ℕ) → at found h ≡ x → set found h x ≡ found
     same x e = subst (λ z. set found h z ≡ found) e (set-getD found h None)
+
     falls : (x : Option ℕ) (c : ℕ) → at found h ≡ x → c < key last x → total last (set found h (Some c)) < total last found
     falls x c e cx =
         let s = total-set last found h (Some c) l in
         let k : key last (at found h) ≡ key last x = ap (key last) e in
         omega arith
+
     go : (x : Option ℕ) → at found h ≡ x → (y : Option ℕ) → Between 0 last y → Goal x y
     go None e None b = inl (tt, same None e)
     go None e (Some c) b = inr (falls None c e (omega arith))
@@ -108,9 +111,9 @@ module _ (net : Meaning) (law : Laws net) (s t : ℕ) where
         long = length-set found (net .head k) _ ∙ i .long;
         came = set-each (Came net s t) found (net .head k) _ hl (earlier-came _ _ _ (i .came (net .head k)) (after-came k _ l (i .came (net .tail k)))) (i .came);
         home = ⊎-elim
-          (λ e. subst (λ o. NoLater o (Some t)) (sym (ap (at (tried net found k)) e ∙ getD-set-same found (net .head k) _ None hl)) (earlier-home _ _ (subst (λ w. NoLater (at found w) (Some t)) e (i .home))))
-          (λ ne. subst (λ o. NoLater o (Some t)) (sym (getD-set-other found (net .head k) s _ None ne)) (i .home))
-          (cases-eq s (net .head k));
+            (λ e. subst (λ o. NoLater o (Some t)) (sym (ap (at (tried net found k)) e ∙ getD-set-same found (net .head k) _ None hl)) (earlier-home _ _ (subst (λ w. NoLater (at found w) (Some t)) e (i .home))))
+            (λ ne. subst (λ o. NoLater o (Some t)) (sym (getD-set-other found (net .head k) s _ None ne)) (i .home))
+            (cases-eq s (net .head k));
       }
 
   link-in : (k : ℕ) → suc k ≤ net .links → IsLink net (suc k)
@@ -136,16 +139,16 @@ module _ (net : Meaning) (law : Laws net) (s t : ℕ) where
   round-step (suc k) found h i =
       ⊎-elim
       (λ p.
-        let e : tried net (round net k found) (suc k) ≡ tried net found (suc k) = ap (λ z. tried net z (suc k)) (p .1) in
-        ⊎-elim
-        (λ q. inl ((λ j l jk. ⊎-elim (λ je. subst (Quiet found) (sym je) (q .0)) (λ jn. p .0 j l (omega arith)) (cases-eq j (suc k))), e ∙ q .1))
-        (λ q. inr (subst (λ z. total (net .last) z < total (net .last) found) (sym e) q))
-        (tried-step found (suc k) (link-in k h) i))
+      let e : tried net (round net k found) (suc k) ≡ tried net found (suc k) = ap (λ z. tried net z (suc k)) (p .1) in
+      ⊎-elim
+      (λ q. inl ((λ j l jk. ⊎-elim (λ je. subst (Quiet found) (sym je) (q .0)) (λ jn. p .0 j l (omega arith)) (cases-eq j (suc k))), e ∙ q .1))
+      (λ q. inr (subst (λ z. total (net .last) z < total (net .last) found) (sym e) q))
+      (tried-step found (suc k) (link-in k h) i))
       (λ p.
-        ⊎-elim
-        (λ q. inr (subst (λ z. total (net .last) z < total (net .last) found) (sym (q .1)) p))
-        (λ q. inr (omega arith))
-        (tried-step (round net k found) (suc k) (link-in k h) (round-sound k found (omega arith) i)))
+      ⊎-elim
+      (λ q. inr (subst (λ z. total (net .last) z < total (net .last) found) (sym (q .1)) p))
+      (λ q. inr (omega arith))
+      (tried-step (round net k found) (suc k) (link-in k h) (round-sound k found (omega arith) i)))
       (round-step k found (omega arith) i)
 
   -- no link shows anything earlier
@@ -161,8 +164,10 @@ module _ (net : Meaning) (law : Laws net) (s t : ℕ) where
     where
       next : Table
       next = round net (net .links) found
+
       step : (((j : ℕ) → IsLink net j → j ≤ net .links → Quiet found j) × (next ≡ found)) ⊎ (total (net .last) next < total (net .last) found)
       step = round-step (net .links) found (omega arith) i
+
       go : (b : Bool) → eqb (total (net .last) next) (total (net .last) found) ≡ b → (total (net .last) next < total (net .last) found → Settled (settled net rounds next)) → Settled (elim b [ true ↦ found | false ↦ settled net rounds next ])
       go true e more = ⊎-elim (λ p. (i, (λ j l. p .0 j l (l .high)))) (λ q. let z = eqb-true _ _ e in absurd (omega arith)) step
       go false e more = more (⊎-elim (λ p. absurd (eqb-false _ _ e (ap (total (net .last)) (p .1)))) (λ q. q) step)
@@ -179,6 +184,7 @@ module _ (net : Meaning) (law : Laws net) (s t : ℕ) where
     where
       here : t ≤ t
       here = omega arith
+
       blank : (n v : ℕ) → Came net s t v (at (replicate n None) v)
       blank n v =
           ⊎-elim

@@ -51,6 +51,7 @@ module _ (net : Meaning) (law : Laws net) (s t : ℕ) (tl : t ≤ net .last) (A 
     where
       w : FirstArrival net s t v a
       w = subst (Earliest net s t v) e (exactly v)
+
       -- the last ride of a first arrival, taken from the first arrival at its tail, comes no later, and nothing comes earlier
       last-in-time : (m : LastRide net s t v a) (o : Option ℕ) → A (net .tail (m .k)) ≡ o → Earliest net s t (net .tail (m .k)) o → (k : ℕ) × InTime net A v k
       last-in-time m None q n = absurd (n (m .came) (m .front) (m .before))
@@ -140,6 +141,7 @@ module _ (net : Meaning) (law : Laws net) (s t : ℕ) (tl : t ≤ net .last) (fo
     where
       k : ℕ
       k = lowest-in net found v 0 (net .links)
+
       go : (b : Bool) → eqb v s ≡ b → ((x : ℕ) → at found (net .tail k) ≡ Some x → x < a → Back net (at found) s (net .tail k) (backward net found s most (net .tail k))) → Back net (at found) s v (elim b [ true ↦ [] | false ↦ k ∷ backward net found s most (net .tail k) ])
       go true q more = subst (λ z. Back net (at found) s z []) (sym (eqb-true v s q)) home
       go false q more =

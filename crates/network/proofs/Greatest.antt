@@ -23,14 +23,16 @@ below-greatest f a (suc n) = go (f n) refl (below-greatest f a n)
   where
     stays : (o : Option ℕ) → (NoLater (f n) (Some a) → ⊥) → Greatest f a n o → Greatest f a (suc n) o
     stays o not g = record {
-        fits = λ x e. (omega (arith, g .fits x e .0), g .fits x e .1);
-        most = λ d l by. ⊎-elim (λ e. absurd (not (subst (λ z. NoLater (f z) (Some a)) e by))) (λ ne. g .most d (omega arith) by) (cases-eq d n);
-      }
+      fits = λ x e. (omega (arith, g .fits x e .0), g .fits x e .1);
+      most = λ d l by. ⊎-elim (λ e. absurd (not (subst (λ z. NoLater (f z) (Some a)) e by))) (λ ne. g .most d (omega arith) by) (cases-eq d n);
+    }
+
     here : NoLater (f n) (Some a) → Greatest f a (suc n) (Some n)
     here by = record {
-        fits = λ x e. let p : x ≡ n = cc in (omega arith, subst (λ z. NoLater (f z) (Some a)) (sym p) by);
-        most = λ d l _. omega arith;
-      }
+      fits = λ x e. let p : x ≡ n = cc in (omega arith, subst (λ z. NoLater (f z) (Some a)) (sym p) by);
+      most = λ d l _. omega arith;
+    }
+
     go : (o : Option ℕ) → f n ≡ o → Greatest f a n (latest-below f a n) → Greatest f a (suc n) (if-by a o n (latest-below f a n))
     go None e g = stays _ (λ q. subst (λ z. NoLater z (Some a)) e q) g
     go (Some b) e g =
@@ -59,6 +61,7 @@ latest-exact net law k d a l dl al = ((λ by. g .most d (omega arith) by), (λ n
   where
     g : Greatest (net .arrival k) a (suc (net .last)) (latest net k a)
     g = latest-greatest net k a al
+
     back : (o : Option ℕ) → latest net k a ≡ o → NotBefore d o → NoLater (net .arrival k d) (Some a)
     back None e n = absurd n
     back (Some x) e n = let f = g .fits x e in no-later-trans _ (net .arrival k x) (Some a) (law .fifo k d x l n (omega (arith, f .0))) (f .1)

@@ -15,17 +15,19 @@ module _ (end : ℕ → ℕ) (v : ℕ) where
       cond-both (eqb (end (suc after)) v) (suc after) (lowest end v (suc after) count) (Is-lowest end v after (after + suc count))
       (λ t. record { found = λ l. (omega arith, omega arith, eqb-true _ _ t); none-lower = λ j l m e. (omega arith, l) })
       (λ t.
-        let s = scanned (suc after) count in
-        record
-        { found = λ l. let f = s .found l in (omega (arith, f .0), omega (arith, f .1), f .2)
-        ; none-lower = λ j l m e. ⊎-elim (λ q. absurd (eqb-false _ _ t (ap end (sym q) ∙ e))) (λ q. s .none-lower j (omega arith) (omega arith) e) (cases-eq j (suc after)) })
+      let s = scanned (suc after) count in
+      record {
+        found = λ l. let f = s .found l in (omega (arith, f .0), omega (arith, f .1), f .2);
+        none-lower = λ j l m e. ⊎-elim (λ q. absurd (eqb-false _ _ t (ap end (sym q) ∙ e))) (λ q. s .none-lower j (omega arith) (omega arith) e) (cases-eq j (suc after));
+      })
 
   pub lowest-found : (after n : ℕ) → Is-lowest end v after n (lowest end v after (n - after))
   lowest-found after n =
       let s = scanned after (n - after) in
-      record
-      { found = λ l. let f = s .found l in (f .0, short (f .0) (f .1), f .2)
-      ; none-lower = λ j l m e. s .none-lower j l (omega arith) e }
+      record {
+        found = λ l. let f = s .found l in (f .0, short (f .0) (f .1), f .2);
+        none-lower = λ j l m e. s .none-lower j l (omega arith) e;
+      }
     where
       short : {k : ℕ} → after < k → k ≤ after + (n - after) → k ≤ n
       short l m = omega arith

@@ -19,4 +19,3 @@ latest-below arrival a (suc t) = if-by a (arrival t) t (latest-below arrival a t
 -- the greatest tick whose arrival over link k is at most a, or none
 abbrev pub latest : Meaning → ℕ → ℕ → Option ℕ
 latest net k a = cond (leb a (net .last)) (latest-below (net .arrival k) a (suc (net .last))) None
-

@@ -31,7 +31,10 @@ impl<'a, N> Lent<N, &'a N> {
     pub fn new(to: &'a N) -> Lent<N, &'a N>
         ensures { λ r. ⌜ now (r .to) ≡ now (to .entry) ⌝ }
     {
-        Lent { to, of: PhantomData }
+        Lent {
+            to,
+            of: PhantomData,
+        }
     }
 }
 

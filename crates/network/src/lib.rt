@@ -59,5 +59,4 @@ pub trait Network {
 // Each link out of a place, or into it, is found once: first and next are the lowest links that are left.
 pub fn lowest_is_lowest()
     ensures { λ _. ⌜ Lowest-is-lowest ⌝ }
-{
-}
+{}

@@ -17,10 +17,10 @@ returns-then-at-eq0 c = walk-end (book-of (c .args .self .now)) (c .args .link) 
 
 pub up-to-requires : need.up-to-requires
 up-to-requires c κs = record {
-    order = walk-order (book-of (c .args .self .now)) (c .args .link) _ _ _ _ _ (c .loop .inv) _ (c .point-point .ensures) (c .loop-test .taken) (c .if-at-eq0 .left);
-    past = c .loop .inv .holds;
-    within = c .if-tick-point .taken;
-  }
+  order = walk-order (book-of (c .args .self .now)) (c .args .link) _ _ _ _ _ (c .loop .inv) _ (c .point-point .ensures) (c .loop-test .taken) (c .if-at-eq0 .left);
+  past = c .loop .inv .holds;
+  within = c .if-tick-point .taken;
+}
 
 pub returns-then-tick-point : need.returns-then-tick-point
 returns-then-tick-point c =

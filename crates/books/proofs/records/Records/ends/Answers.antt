@@ -23,9 +23,10 @@ loop-again c =
   where
     first : first-with (c .loop .ends) (c .point-point .result) ≡ c .match-ends .first
     first =
-        elim (c .match-ends .came)
-        [ in-None w ↦ ap (λ (e : Option (Point × Point)). first-with e (c .point-point .result)) (w .in-None .is) ∙ sym (w .first-is)
-        | in-Some w ↦ ap (λ (e : Option (Point × Point)). first-with e (c .point-point .result)) (w .in-Some .is) ∙ sym (w .first-is) ]
+        elim (c .match-ends .came) [
+          | in-None w ↦ ap (λ (e : Option (Point × Point)). first-with e (c .point-point .result)) (w .in-None .is) ∙ sym (w .first-is)
+          | in-Some w ↦ ap (λ (e : Option (Point × Point)). first-with e (c .point-point .result)) (w .in-Some .is) ∙ sym (w .first-is)
+        ]
 
 pub returns : need.returns
 returns c = ends-spent (book-of (c .args .self .now)) (c .args .link) _ _ _ (c .loop .inv) (c .loop-test .left)

@@ -10,10 +10,10 @@ loop-holds c = walk-start (book-of (c .args .self .now)) (c .args .link) _ _ tt 
 
 pub back-from-requires : need.back-from-requires
 back-from-requires c κs = record {
-    order = walk-order (book-of (c .args .self .now)) (c .args .link) _ _ _ _ _ (c .loop .inv) _ (c .point-point .ensures) (c .loop-test .taken) (c .if-at-eq0 .left);
-    by = c .loop .inv .holds;
-    late = c .if-tick-point .taken;
-  }
+  order = walk-order (book-of (c .args .self .now)) (c .args .link) _ _ _ _ _ (c .loop .inv) _ (c .point-point .ensures) (c .loop-test .taken) (c .if-at-eq0 .left);
+  by = c .loop .inv .holds;
+  late = c .if-tick-point .taken;
+}
 
 pub returns-then-tick-point : need.returns-then-tick-point
 returns-then-tick-point c =

@@ -1,0 +1,8 @@
+use mathlib.Core.Path.{refl}
+use Rattle.books.specs.Layout.{place-at, link-at, point-at}
+use Rattle.books.specs.Faults.{header-fault, size-fault, fault-by, first-fault}
+use Rattle.quay.proofs.rows.Needs as need
+
+pub returns : need.returns
+unfolding place-at link-at point-at header-fault size-fault fault-by first-fault
+returns c = record { accepted = refl; link-1 = refl; latest-1 = refl }
