@@ -1,14 +1,14 @@
 // Checks a road book on standard input and says in sentences what it found. The status is 0 exactly when the input
 // is one book that is accepted.
-use books::bytes;
-use books::fault::Cause;
-use books::fault::CauseDisplay;
-use books::fault::CausePartialEq;
-use books::fault::RecordDisplay;
-use books::fault::Refused;
 use books::net::RoadNetwork;
 use books::road::RoadBook;
 use network::Network;
+use records::bytes;
+use records::refused::Refused;
+use refusals::fault::Cause;
+use refusals::fault::CauseDisplay;
+use refusals::fault::CausePartialEq;
+use refusals::fault::RecordDisplay;
 use std::error::AnyError;
 use std::io;
 use std::io::Read;

@@ -14,9 +14,9 @@ use Rattle.network.specs.Laws.{NoLater, NotBefore, Between}
 use Rattle.network.specs.Latest.{latest}
 use Rattle.network.proofs.Orders.{no-later-trans, not-before-less}
 use Rattle.network.proofs.Greatest.{Greatest, latest-greatest, one-greatest}
-use Rattle.books.specs.declared.layout.Point.{Point}
-use Rattle.books.specs.Book.{Book, points-of}
-use Rattle.books.specs.Rules.{Timely, All-timely, Follows, Rising, Road}
+use Rattle.records.specs.declared.layout.Point.{Point}
+use Rattle.records.specs.Book.{Book, points-of}
+use Rattle.records.specs.Rules.{Timely, All-timely, Follows, Rising, Road}
 use Rattle.books.specs.Roads.{up-to, along, road, road-network, Departs-before, Arrives-by, back-from, departure-of, back-along, road-back}
 use Rattle.books.proofs.Lines.{between-low, between-high, between-more, back-high, segment}
 

@@ -1,9 +1,4 @@
-pub mod Unless
-pub mod Firsts
-pub mod Headers
-pub mod Chains
 pub mod Walks
 pub mod Lines
 pub mod Driving
-pub mod Obeying
 pub mod Sound

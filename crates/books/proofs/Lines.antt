@@ -5,8 +5,8 @@ use mathlib.Core.Logic.{_↔_}
 use native.Mathlib.Omega.{arith}
 use native.Mathlib.Nat.{le-div-iff-mul-le, div-lt-iff-lt-mul, div-le-of-le-mul, div-mul-le-self, mul-sub, mul-le-mul-left, mul-le-mul-right, le-trans}
 use Rattle.std.specs.declared.option.Option.the-variants.{Some}
-use Rattle.books.specs.declared.layout.Point.{Point}
-use Rattle.books.specs.Rules.{Follows}
+use Rattle.records.specs.declared.layout.Point.{Point}
+use Rattle.records.specs.Rules.{Follows}
 use Rattle.books.specs.Roads.{between, back}
 
 -- p of q parts of w are at most w

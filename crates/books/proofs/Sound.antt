@@ -15,23 +15,23 @@ use Rattle.network.specs.Laws.{Laws, Between, NoLater}
 use Rattle.network.specs.Links.{lowest, first, next, first-out, next-out, first-in, next-in}
 use Rattle.network.specs.Latest.{latest}
 use Rattle.network.proofs.Ranges.{true-among, false-among, cases-among}
-use Rattle.books.specs.declared.layout.Place.{Place}
-use Rattle.books.specs.declared.layout.Link.{Link}
-use Rattle.books.specs.declared.layout.End.{End}
-use Rattle.books.specs.declared.layout.End.the-variants.{Tail, Head}
-use Rattle.books.specs.declared.fault.Fault.{Fault}
-use Rattle.books.specs.declared.records.Records.{Records}
+use Rattle.records.specs.declared.layout.Place.{Place}
+use Rattle.records.specs.declared.layout.Link.{Link}
+use Rattle.records.specs.declared.layout.End.{End}
+use Rattle.records.specs.declared.layout.End.the-variants.{Tail, Head}
+use Rattle.refusals.specs.declared.fault.Fault.{Fault}
+use Rattle.records.specs.declared.records.Records.{Records}
 use Rattle.books.specs.declared.road.RoadBook.{RoadBook}
-use Rattle.books.specs.Layout.{header-in, Within, no-place, no-link, place-at, link-at}
-use Rattle.books.specs.Book.{Book, laid-out, book-in, chain, points-of, end-of, lowest-after}
-use Rattle.books.specs.Rules.{All-timely, Road, Well-formed, Obeys}
+use Rattle.records.specs.Layout.{header-in, Within, no-place, no-link, place-at, link-at}
+use Rattle.records.specs.Book.{Book, laid-out, book-in, chain, points-of, end-of, lowest-after}
+use Rattle.records.specs.Rules.{All-timely, Road, Well-formed, Obeys}
 use Rattle.books.specs.Roads.{road, road-back, road-network}
-use Rattle.books.specs.Faults.{first-fault}
-use Rattle.books.specs.Reading.{book-of}
+use Rattle.records.specs.Faults.{first-fault}
+use Rattle.records.specs.Reading.{book-of}
 use Rattle.books.specs.Opened.{open-book}
-use Rattle.books.proofs.Chains.{chain-end}
+use Rattle.records.proofs.Chains.{chain-end}
 use Rattle.books.proofs.Driving.{road-between, road-fifo, back-is-latest}
-use Rattle.books.proofs.Obeying.{obeys-from-none, none-from-obeys}
+use Rattle.records.proofs.Obeying.{obeys-from-none, none-from-obeys}
 
 -- A ghost field holds its fact truncated; it comes out through the test for a fault.
 abbrev clean : Option Fault → Bool

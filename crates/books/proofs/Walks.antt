@@ -1,21 +1,15 @@
--- The loops along a link's chain: the check of its points, its arrival, its latest departure and its two ends.
+-- The loops along a link's chain: its arrival, its latest departure and its two ends.
 use Prim.Native.Nat.{ℕ, _+_, _-_, _≤_, _<_}
 use mathlib.Core.Path.{_≡_, refl, sym, ap, subst, _∙_}
-use mathlib.Core.Bool.{true, false}
 use mathlib.Core.List.{List, [], _∷_, map}
 use native.Mathlib.Omega.{arith}
 use Rattle.std.specs.declared.option.Option.{Option}
 use Rattle.std.specs.declared.option.Option.the-variants.{None, Some}
-use Rattle.books.specs.declared.layout.Point.{Point}
-use Rattle.books.specs.declared.fault.Fault.{Fault}
-use Rattle.books.specs.declared.fault.Cause.the-variants.{Time, Order}
-use Rattle.books.specs.declared.fault.Record.the-variants.{Point as of-point}
-use Rattle.books.specs.Book.{Book, chain, points-of}
-use Rattle.books.specs.Rules.{Follows, Rising, Road}
-use Rattle.books.specs.Faults.{unless, timely, follows, walk-fault, road-fault}
-use Rattle.books.specs.Reading.{last-of, ends-of}
-use Rattle.books.proofs.Unless.{fault, passed, caught}
-use Rattle.books.proofs.Chains.{chain-end, chain-spent, chain-more, left, left-more}
+use Rattle.records.specs.declared.layout.Point.{Point}
+use Rattle.records.specs.Book.{Book, chain, points-of}
+use Rattle.records.specs.Rules.{Follows, Rising, Road}
+use Rattle.books.specs.Roads.{last-of, ends-of}
+use Rattle.records.proofs.Chains.{chain-end, chain-spent, left, left-more}
 
 -- the two ends of what was seen, if anything was, and of what is left
 abbrev pub onward : Option (Point × Point) → List Point → Option (Point × Point)
@@ -48,35 +42,6 @@ module _ (b : Book) (k : ℕ) where
 
   all-seen : (seen at : ℕ) → b .header .points ≤ seen → points-left seen at ≡ []
   all-seen seen at h = ap (map (b .point)) (chain-spent (b .point) _ seen at h)
-
-  -- the check of the points
-  abbrev pub Checked : Option Point → ℕ → ℕ → Type 0
-  Checked before seen at = walk-fault b k before (chain (b .point) (b .header .points - seen) at) ≡ road-fault b k
-
-  pub check-start : (seen at : ℕ) → seen ≡ 0 → at ≡ b .link k .«first_point» → Checked None seen at
-  check-start seen at z e = let n : b .header .points - seen ≡ b .header .points = omega arith in ap (λ m. walk-fault b k None (chain (b .point) m at)) n ∙ ap (λ i. walk-fault b k None (chain (b .point) (b .header .points) i)) e
-
-  pub check-end : (before : Option Point) (seen at : ℕ) → Checked before seen at → at ≡ 0 → None ≡ road-fault b k
-  check-end before seen at w z = sym (ap (walk-fault b k before) (chain-end (b .point) _ at z)) ∙ w
-
-  pub check-spent : (before : Option Point) (seen at : ℕ) → Checked before seen at → b .header .points ≤ seen → None ≡ road-fault b k
-  check-spent before seen at w h = sym (ap (walk-fault b k before) (chain-spent (b .point) _ seen at h)) ∙ w
-
-  module _ (before : Option Point) (seen at : ℕ) (p : Point) (is : p ≡ b .point at) (more : seen < b .header .points) (there : at ≡ 0 → ⊥) where
-    abbrev rest : Point → List ℕ → Option Fault
-    rest q is = unless (timely (b .link k .floor) (b .header .last) q) (Time k) (of-point at) (unless (follows before q) (Order k) (of-point at) (walk-fault b k (Some q) is))
-
-    split : Checked before seen at → rest p (chain (b .point) (b .header .points - (seen + 1)) (p .next)) ≡ road-fault b k
-    split w = ap (λ (q : Point). rest q (chain (b .point) (b .header .points - (seen + 1)) (q .next))) is ∙ (sym (ap (walk-fault b k before) (chain-more (b .point) _ seen at more there)) ∙ w)
-
-    pub check-time : Checked before seen at → timely (b .link k .floor) (b .header .last) p ≡ false → fault (Time k) (of-point at) ≡ road-fault b k
-    check-time w t = sym (caught _ (Time k) (of-point at) _ t) ∙ split w
-
-    pub check-order : Checked before seen at → timely (b .link k .floor) (b .header .last) p ≡ true → follows before p ≡ false → fault (Order k) (of-point at) ≡ road-fault b k
-    check-order w t f = sym (passed _ (Time k) (of-point at) _ t ∙ caught _ (Order k) (of-point at) _ f) ∙ split w
-
-    pub check-more : Checked before seen at → timely (b .link k .floor) (b .header .last) p ≡ true → follows before p ≡ true → Checked (Some p) (seen + 1) (p .next)
-    check-more w t f = sym (passed _ (Time k) (of-point at) _ t ∙ passed _ (Order k) (of-point at) _ f) ∙ split w
 
   -- a walk for `answer`, which keeps `Holds` of the point before.
   module _ (answer : Option Point → List Point → Option ℕ) (Holds : Option Point → Type 0) where

@@ -6,11 +6,11 @@ use Rattle.std.specs.declared.result.Result.{Result}
 use Rattle.std.specs.declared.result.Result.the-variants.{Ok, Err}
 use Rattle.std.specs.declared.vec.Vec.{Vec}
 use Rattle.std.specs.declared.alloc.Global.{Global}
-use Rattle.books.specs.declared.fault.Fault.{Fault}
-use Rattle.books.specs.declared.fault.Refused.{Refused}
+use Rattle.refusals.specs.declared.fault.Fault.{Fault}
+use Rattle.records.specs.declared.refused.Refused.{Refused}
 use Rattle.books.specs.declared.road.RoadBook.{RoadBook}
-use Rattle.books.specs.Book.{Book}
-use Rattle.books.specs.Reading.{book-of}
+use Rattle.records.specs.Book.{Book}
+use Rattle.records.specs.Reading.{book-of}
 
 -- the book that is open
 abbrev pub open-book : RoadBook → Book

@@ -6,8 +6,8 @@ use lib.Dec.{leb}
 use Rattle.std.specs.declared.option.Option.{Option}
 use Rattle.std.specs.declared.option.Option.the-variants.{None, Some}
 use Rattle.network.specs.Meaning.{Meaning}
-use Rattle.books.specs.declared.layout.Point.{Point}
-use Rattle.books.specs.Book.{Book, points-of}
+use Rattle.records.specs.declared.layout.Point.{Point}
+use Rattle.records.specs.Book.{Book, points-of}
 
 -- the arrival for t between neighbouring points p and q, the quotient rounded down
 abbrev pub between : Point → Point → ℕ → ℕ
@@ -72,3 +72,13 @@ back-along before (q ∷ qs) a = cond (leb (q .arrival) a) (back-along (Some q) 
 
 abbrev pub road-back : List Point → ℕ → Option ℕ
 road-back ps a = back-along None ps a
+
+-- The first and the last of a chain's points.
+
+abbrev pub last-of : Point → List Point → Point
+last-of p [] = p
+last-of p (q ∷ qs) = last-of q qs
+
+abbrev pub ends-of : List Point → Option (Point × Point)
+ends-of [] = None
+ends-of (p ∷ ps) = Some (p, last-of p ps)

@@ -1,10 +1,7 @@
 // A road book is a network.
 ghost use mathlib.Core.Path.{_≡_};
-ghost use Rattle.books.specs.Book.{points-of};
 ghost use Rattle.books.specs.Opened.{open-book};
-ghost use Rattle.books.specs.Reading.{ends-of};
 ghost use Rattle.books.specs.Roads.{road-network};
-use crate::layout::Point;
 use crate::road::RoadBook;
 use network::Network;
 
@@ -39,14 +36,14 @@ pub impl Network for RoadBook as RoadNetwork {
         if tick > self.records.header.last {
             return None;
         }
-        self.records.arrival(link, tick)
+        self.drive(link, tick)
     }
 
     fn latest_departure(&self, link: u32, tick: u32) -> Option<u32> {
         if tick > self.records.header.last {
             return None;
         }
-        self.records.latest_departure(link, tick)
+        self.drive_back(link, tick)
     }
 
     fn first_out(&self, place: u32) -> u32 {
@@ -67,13 +64,6 @@ pub impl Network for RoadBook as RoadNetwork {
 }
 
 impl RoadBook {
-    // The first and the last point of a link's chain, or none for a link that isn't there.
-    pub fn ends(&self, link: u32) -> Option<(Point, Point)>
-        ensures { λ r. ⌜ r ≡ ends-of (points-of (open-book (now (self .entry))) link) ⌝ }
-    {
-        self.records.ends(link)
-    }
-
     // How many points the book has, on chains and off them.
     pub fn points(&self) -> u32
         ensures { λ r. ⌜ r ≡ open-book (now (self .entry)) .header .points ⌝ }

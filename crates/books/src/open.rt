@@ -6,17 +6,17 @@ ghost use Rattle.std.specs.Of.Vec.{vec-items};
 ghost use Rattle.std.specs.Results.{Cases, isOk};
 ghost use Rattle.std.specs.declared.option.Option.the-variants.{None, Some};
 ghost use Rattle.std.specs.Vec.{made};
-ghost use Rattle.books.specs.Book.{book-in};
-ghost use Rattle.books.specs.Faults.{header-fault, first-fault};
-ghost use Rattle.books.specs.Layout.{header-in};
+ghost use Rattle.records.specs.Book.{book-in};
+ghost use Rattle.records.specs.Faults.{header-fault, first-fault};
+ghost use Rattle.records.specs.Layout.{header-in};
 ghost use Rattle.books.specs.Opened.{open-book, fault-named, words-held};
-ghost use Rattle.books.specs.Rules.{Obeys};
-use crate::checks::Check;
-use crate::fault::Fault;
-use crate::fault::Refused;
-use crate::layout::Header;
-use crate::records::Records;
+ghost use Rattle.records.specs.Rules.{Obeys};
 use crate::road::RoadBook;
+use records::checks::Check;
+use records::layout::Header;
+use records::records::Records;
+use records::refused::Refused;
+use refusals::fault::Fault;
 
 // The first word of a road book.
 const ROADS: u32 = 1;

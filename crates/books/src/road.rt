@@ -1,7 +1,7 @@
 // A road book: words that obey every rule of one.
 ghost use Rattle.std.specs.Of.Vec.{vec-items};
-ghost use Rattle.books.specs.Rules.{Obeys};
-use crate::records::Records;
+ghost use Rattle.records.specs.Rules.{Obeys};
+use records::records::Records;
 
 #[derive(Drop)]
 pub struct RoadBook {

@@ -6,9 +6,9 @@ use Rattle.std.specs.declared.option.Option.{Option}
 use Rattle.std.specs.declared.option.Option.the-variants.{None, Some}
 use Rattle.network.specs.Meaning.{Meaning}
 use Rattle.network.specs.Latest.{latest}
-use Rattle.books.specs.Book.{book-in}
+use Rattle.records.specs.Book.{book-in}
 use Rattle.books.specs.Roads.{road-network}
-use Rattle.books.specs.Faults.{first-fault}
+use Rattle.records.specs.Faults.{first-fault}
 
 abbrev header : List ℕ
 header = 1 ∷ 3 ∷ 4 ∷ 9 ∷ 100 ∷ []

@@ -1,16 +1,16 @@
 // The Quay book and damaged copies of it, run through the code.
 use crate::words;
-use books::fault::Cause;
-use books::fault::CauseDebug;
-use books::fault::CausePartialEq;
-use books::fault::Fault;
-use books::fault::FaultDebug;
-use books::fault::FaultPartialEq;
-use books::fault::Record;
-use books::fault::RefusedDebug;
 use books::net::RoadNetwork;
 use books::road::RoadBook;
 use network::Network;
+use records::refused::RefusedDebug;
+use refusals::fault::Cause;
+use refusals::fault::CauseDebug;
+use refusals::fault::CausePartialEq;
+use refusals::fault::Fault;
+use refusals::fault::FaultDebug;
+use refusals::fault::FaultPartialEq;
+use refusals::fault::Record;
 use std::alloc::AllocError;
 use std::alloc::Global;
 use std::test::*;

@@ -1,6 +1,6 @@
 use mathlib.Core.Path.{refl}
-use Rattle.books.specs.Layout.{place-at, link-at, point-at}
-use Rattle.books.specs.Faults.{header-fault, size-fault, fault-by, first-fault}
+use Rattle.records.specs.Layout.{place-at, link-at, point-at}
+use Rattle.records.specs.Faults.{header-fault, size-fault, fault-by, first-fault}
 use Rattle.quay.proofs.rows.Needs as need
 
 pub returns : need.returns

@@ -1,5 +1,5 @@
 use mathlib.Core.Path.{ap, _∙_}
-use Rattle.books.specs.declared.layout.Place.{Place}
+use Rattle.records.specs.declared.layout.Place.{Place}
 use Rattle.books.specs.Opened.{open-book}
 use Rattle.books.proofs.Sound.{sound, out-first}
 use Rattle.books.proofs.net.RoadNetwork.first_out.Needs as need

@@ -1,5 +1,5 @@
 use mathlib.Core.Path.{ap, _∙_}
-use Rattle.books.specs.declared.layout.Link.{Link}
+use Rattle.records.specs.declared.layout.Link.{Link}
 use Rattle.books.specs.Opened.{open-book}
 use Rattle.books.proofs.Sound.{sound, in-next}
 use Rattle.books.proofs.net.RoadNetwork.next_in.Needs as need

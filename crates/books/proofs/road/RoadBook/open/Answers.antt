@@ -11,14 +11,14 @@ use Rattle.std.specs.declared.option.Option.the-variants.{None, Some}
 use Rattle.std.specs.declared.vec.Vec.{Vec}
 use Rattle.std.specs.declared.alloc.Global.{Global}
 use Rattle.std.proofs.shelf.Results.{err-from-errBy}
-use Rattle.books.specs.declared.fault.Fault.{Fault}
-use Rattle.books.specs.declared.records.Records.{Records}
-use Rattle.books.specs.Book.{book-in}
-use Rattle.books.specs.Faults.{or-else, header-fault, size-fault, first-by, road-checks, first-fault}
-use Rattle.books.specs.Reading.{book-of}
-use Rattle.books.specs.Rules.{Obeys}
-use Rattle.books.proofs.Unless.{or-first, or-next}
-use Rattle.books.proofs.Obeying.{obeys-from-none, none-from-obeys}
+use Rattle.refusals.specs.declared.fault.Fault.{Fault}
+use Rattle.records.specs.declared.records.Records.{Records}
+use Rattle.records.specs.Book.{book-in}
+use Rattle.records.specs.Faults.{or-else, header-fault, size-fault, first-by, road-checks, first-fault}
+use Rattle.records.specs.Reading.{book-of}
+use Rattle.records.specs.Rules.{Obeys}
+use Rattle.records.proofs.Unless.{or-first, or-next}
+use Rattle.records.proofs.Obeying.{obeys-from-none, none-from-obeys}
 use Rattle.books.proofs.Sound.{same-book}
 use Rattle.books.proofs.road.RoadBook.open.Needs as need
 

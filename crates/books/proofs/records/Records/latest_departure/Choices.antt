@@ -1,7 +1,0 @@
-use Rattle.books.specs.Reading.{book-of}
-use Rattle.books.specs.Roads.{back-along, Arrives-by}
-use Rattle.books.proofs.Walks.{Walked}
-use Rattle.books.proofs.records.Records.latest_departure.Given as given
-
-abbrev pub Inv-loop : given.InvT-loop
-Inv-loop l = Walked (book-of (l .self)) (l .link) (λ before ps. back-along before ps (l .tick)) (λ before. Arrives-by before (l .tick)) (l .before) (l .counter) (l .at)

@@ -1,0 +1,2 @@
+// What is refused, by its number and in words.
+pub mod fault;
