@@ -6,11 +6,13 @@ use network::Network;
 use records::refused::RefusedDebug;
 use refusals::fault::Cause;
 use refusals::fault::CauseDebug;
+use refusals::fault::CauseDisplay;
 use refusals::fault::CausePartialEq;
 use refusals::fault::Fault;
 use refusals::fault::FaultDebug;
 use refusals::fault::FaultPartialEq;
 use refusals::fault::Record;
+use refusals::fault::RecordDisplay;
 use std::alloc::AllocError;
 use std::alloc::Global;
 use std::test::*;
@@ -171,4 +173,19 @@ fn links_may_share_points_and_points_may_be_idle(rt: LibcRuntime) -> Result<(), 
     let book = RoadBook::open(shared)?;
     check_eq(book.arrival(4, 0), Some(30))?;
     check_eq(book.arrival(4, 40), book.arrival(3, 40))
+}
+
+#[test]
+fn a_fault_is_told_in_words(rt: LibcRuntime) -> Result<(), Fail> {
+    let fault = Fault {
+        cause: Cause::Order { link: 7 },
+        at: Record::Point(2),
+    };
+    let record = fault.at.to_string(rt.alloc())?;
+    check_eq(record.as_str(), "point 2")?;
+    let cause = fault.cause.to_string(rt.alloc())?;
+    check_eq(
+        cause.as_str(),
+        "on the chain of link 7, it does not depart later than the point before and arrive no earlier",
+    )
 }
