@@ -1,4 +1,5 @@
 pub mod Journey
 pub mod Earliest
 pub mod Roads
+pub mod Turned
 pub mod Theorems

@@ -4,6 +4,8 @@ use Rattle.refusals.specs.declared.fault.Cause.{Cause}
 use Rattle.refusals.specs.declared.fault.Cause.the-variants.{Length, Kind, Limits, Chain, Ends, Floor, PointIndex, Time, Order}
 use Rattle.refusals.specs.declared.fault.Record.{Record}
 use Rattle.refusals.specs.declared.fault.Record.the-variants.{Header, Place, Link, Point}
+use Rattle.refusals.specs.declared.refusal.Refusal.{Refusal}
+use Rattle.refusals.specs.declared.refusal.Refusal.the-variants.{NoPlace, NoTick, ShortTable, ShortQueue, ShortList}
 
 -- the number of each cause
 abbrev pub cause-number : Cause → ℕ
@@ -23,3 +25,11 @@ record-number Header = 0
 record-number (Place v) = v
 record-number (Link k) = k
 record-number (Point i) = i
+
+-- the number of each refusal
+abbrev pub refusal-number : Refusal → ℕ
+refusal-number NoPlace = 12
+refusal-number NoTick = 14
+refusal-number ShortTable = 19
+refusal-number ShortQueue = 20
+refusal-number (ShortList needed) = 21

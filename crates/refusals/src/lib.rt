@@ -1,2 +1,3 @@
 // What is refused, by its number and in words.
 pub mod fault;
+pub mod refusal;

@@ -1,0 +1,2 @@
+// Networks made from other networks. Each layer owns the network below it and is a network itself.
+pub mod turned;
