@@ -1,6 +1,6 @@
 // What every network of places and timed links shows, by its meaning.
 ghost use mathlib.Core.Path.{_≡_};
-ghost use Rattle.network.specs.Meaning.{Meaning};
+ghost use Rattle.network.specs.Meaning.{Meaning, among};
 ghost use Rattle.network.specs.Laws.{Laws};
 ghost use Rattle.network.specs.Latest.{latest};
 ghost use Rattle.network.specs.Links.{first-out, next-out, first-in, next-in, Lowest-is-lowest};
@@ -54,6 +54,13 @@ pub trait Network {
 
     fn next_in(&self, link: u32) -> u32
         ensures { λ r. ⌜ r ≡ next-in (meaning (now (self .entry))) link ⌝ };
+}
+
+// Whether k is one of the numbers 1 to n.
+pub fn among(k: u32, n: u32) -> bool
+    ensures { λ r. ⌜ r ≡ among k n ⌝ }
+{
+    k >= 1 && k <= n
 }
 
 // Each link out of a place, or into it, is found once: first and next are the lowest links that are left.

@@ -1,6 +1,5 @@
 // The records by number. One that isn't there is all zero.
 ghost use mathlib.Core.Path.{_≡_};
-ghost use Rattle.network.specs.Meaning.{among};
 ghost use Rattle.records.specs.Book.{end-of, lowest-after};
 ghost use Rattle.records.specs.Reading.{book-of};
 use crate::layout::End;
@@ -8,13 +7,7 @@ use crate::layout::Link;
 use crate::layout::Place;
 use crate::layout::Point;
 use crate::records::Records;
-
-// Whether k is one of the numbers 1 to n.
-pub(crate) fn among(k: u32, n: u32) -> bool
-    ensures { λ r. ⌜ r ≡ among k n ⌝ }
-{
-    k >= 1 && k <= n
-}
+use network::among;
 
 impl Records {
     pub fn place(&self, number: u32) -> Place

@@ -1,0 +1,3 @@
+mod Pairs
+mod Tables
+mod Vecs
