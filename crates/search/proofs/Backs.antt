@@ -36,7 +36,6 @@ module _ (net : Meaning) (law : Laws net) (h : ℕ → ℕ) (even : Consistent n
     (from : (v a : ℕ) → IsPlace net v → L v ≡ Some a → Bound (a + h v) → E v ≡ Some a)
     (late-E : (v a : ℕ) → IsPlace net v → E v ≡ Some a → a ≤ net .last)
     (late-L : (v a : ℕ) → IsPlace net v → L v ≡ Some a → a ≤ net .last) where
-
   -- the tail of a link in time is within the bound where its head is
   nearer : (v k x a : ℕ) → IsLink net k → net .head k ≡ v → x ≤ net .last → net .arrival k x ≡ Some a → Bound (a + h v) → Bound (x + h (net .tail k))
   nearer v k x a l into xl e b =

@@ -8,3 +8,4 @@ mod Backs
 mod RoadWalks
 mod Outcomes
 mod Refusing
+mod Replies

@@ -52,27 +52,27 @@ module _ (net : Meaning) (law : Laws net) (h : ℕ → ℕ) (s d t : ℕ) (cells
         list = reverse (road-list net s t d);
         by-earliest = one .found;
         by-labels =
-          back-labels net law h (fit .consistent) (Within (label cells d)) (λ x y l b. within-less (label cells d) x y l b) (earliest net s t) (arrivals-in cells)
-          (λ v b place ev w. ap arrival-of (first-near net h s t d cells done v b (place .high) (first-of v b ev) w))
-          (λ v b place lv w. earliest-of v b (near-first net h s t d cells done v b (place .high) (label-of v b lv) w))
-          (λ v b place ev. first-late v b (first-of v b ev))
-          (λ v b place lv. journey-within net law (done .sound v b (place .high) (label-of v b lv) .1) tick .1)
-          (one .found) a destination ed (subst (λ l. Within l (a + h d)) (sym e) (omega (arith, fit .here)));
+            back-labels net law h (fit .consistent) (Within (label cells d)) (λ x y l b. within-less (label cells d) x y l b) (earliest net s t) (arrivals-in cells)
+            (λ v b place ev w. ap arrival-of (first-near net h s t d cells done v b (place .high) (first-of v b ev) w))
+            (λ v b place lv w. earliest-of v b (near-first net h s t d cells done v b (place .high) (label-of v b lv) w))
+            (λ v b place ev. first-late v b (first-of v b ev))
+            (λ v b place lv. journey-within net law (done .sound v b (place .high) (label-of v b lv) .1) tick .1)
+            (one .found) a destination ed (subst (λ l. Within l (a + h d)) (sym e) (omega (arith, fit .here)));
       }
 
   pub told-none : (n : ℕ) → label cells d ≡ 0 → Count (NearIn h (label cells d) cells) (net .places) n → No-departure net s d t n
   told-none n z k = record {
-      none = goal-label net h s t d cells done (destination .high) (fit .here) .0 z;
-      taken = subst (λ l. Count (TakenPlace net h s t (arrival-of l)) (net .places) n) z (counted net h s t d cells done n k);
-    }
+    none = goal-label net h s t d cells done (destination .high) (fit .here) .0 z;
+    taken = subst (λ l. Count (TakenPlace net h s t (arrival-of l)) (net .places) n) z (counted net h s t d cells done n k);
+  }
 
   module _ (a : ℕ) (labelled : label cells d ≡ suc a) (roads : ℕ) (counts : (back : List ℕ) → Back net (arrivals-in cells) s d back → roads ≡ length back) where
     pub told-short : (room : ℕ) → room < roads → TooShort (Back net (earliest net s t) s d) roads room
     told-short room l = let f = found-back a labelled in (f .list, f .by-earliest, counts (f .list) (f .by-labels), l)
 
     pub told-way : (order : Order) (list : List ℕ) (n : ℕ) → Count (NearIn h (label cells d) cells) (net .places) n
-      → ((x : ℕ) (back : List ℕ) → Back net (arrivals-in cells) x d back → roads ≡ length back → in-order order (take roads list) ≡ back)
-      → Way net h order s d t a (take roads list) n
+        → ((x : ℕ) (back : List ℕ) → Back net (arrivals-in cells) x d back → roads ≡ length back → in-order order (take roads list) ≡ back)
+        → Way net h order s d t a (take roads list) n
     told-way order list n k written =
         let f = found-back a labelled in
         record {

@@ -44,10 +44,10 @@ spot-within Reversed n i h = omega arith
 module _ (net : Meaning) (law : Laws net) (cells : List ℕ) where
   in-time : {v k : ℕ} → Fits net cells v k → InTime net (arrivals-in cells) v k
   in-time {v} {k} f = record {
-      link = f .link;
-      into = f .into;
-      timely = ap (λ l. after net k (arrival-of l)) (f .from-label) ∙ (f .carries ∙ sym (ap arrival-of (f .to-label)));
-    }
+    link = f .link;
+    into = f .into;
+    timely = ap (λ l. after net k (arrival-of l)) (f .from-label) ∙ (f .carries ∙ sym (ap arrival-of (f .to-label)));
+  }
 
   fits : {v k : ℕ} → 1 ≤ label cells v → InTime net (arrivals-in cells) v k → Fits net cells v k
   fits {v} {k} there f = go (label cells v) refl there
@@ -134,12 +134,13 @@ module _ (net : Meaning) (law : Laws net) (cells : List ℕ) where
     pub written-more : n ≤ length list → Written order n place (set list (spot order n i) k) (i + 1) (net .tail k)
     written-more room s back b e =
         let f = step s back b e in
-        let p = split back i k (f .rest) (f .is) in
-        ( subst (Back net (arrivals-in cells) s (net .tail k)) (sym (p .after)) (f .onward)
-        , (λ j l. ⊎-elim
-            (λ q. subst (λ x. getD (set list (spot order n i) k) (spot order n x) 0 ≡ getD back x 0) (sym q) (getD-set-same list (spot order n i) k 0 (omega (arith, spot-within order n i more)) ∙ sym (p .here)))
-            (λ q. getD-set-other list (spot order n i) (spot order n j) k 0 (spot-other order j q l) ∙ w s back b e .1 j (omega arith))
-            (cases-eq j i)) )
+        let p = split back i k (f .rest) (f .is) in (
+          subst (Back net (arrivals-in cells) s (net .tail k)) (sym (p .after)) (f .onward),
+          (λ j l. ⊎-elim
+              (λ q. subst (λ x. getD (set list (spot order n i) k) (spot order n x) 0 ≡ getD back x 0) (sym q) (getD-set-same list (spot order n i) k 0 (omega (arith, spot-within order n i more)) ∙ sym (p .here)))
+              (λ q. getD-set-other list (spot order n i) (spot order n j) k 0 (spot-other order j q l) ∙ w s back b e .1 j (omega arith))
+              (cases-eq j i)),
+        )
       where
         spot-other : (o : Order) (j : ℕ) → (j ≡ i → ⊥) → j < i + 1 → spot o n j ≡ spot o n i → ⊥
         spot-other AsFound j q l e = q e
@@ -150,6 +151,7 @@ module _ (net : Meaning) (law : Laws net) (cells : List ℕ) where
     where
       long : length (take n list) ≡ n
       long = length-take-le n list room
+
       go : (o : Order) → ((j : ℕ) → j < n → getD list (spot o n j) 0 ≡ getD back j 0) → in-order o (take n list) ≡ back
       go AsFound each = ext-getD 0 (take n list) back (long ∙ e) (λ j l. let jn : j < n = omega (arith, long) in getD-take n list j 0 jn ∙ each j jn)
       go Reversed each =

@@ -1,5 +1,5 @@
 -- What a question is answered, and when it is refused.
-use Prim.Native.Nat.{ℕ, _-_, _≤_, _<_}
+use Prim.Native.Nat.{ℕ, _+_, _-_, _≤_, _<_}
 use mathlib.Core.Path.{_≡_}
 use mathlib.Core.Bool.{Bool, cond}
 use mathlib.Core.Logic.{_↔_}
@@ -19,6 +19,7 @@ use Rattle.journeys.specs.Turned.{turned}
 use Rattle.queues.specs.Queue.{Empty}
 use Rattle.refusals.specs.declared.refusal.Refusal.{Refusal}
 use Rattle.refusals.specs.declared.refusal.Refusal.the-variants.{NoPlace, NoTick, ShortTable, ShortQueue, ShortList}
+use Rattle.search.specs.declared.question.Question.{Question}
 use Rattle.search.specs.declared.question.Answer.{Answer}
 use Rattle.search.specs.declared.question.Answer.the-variants.{Found, NoWay as Cut-off}
 use Rattle.search.specs.declared.roads.Order.{Order}
@@ -121,6 +122,16 @@ pub record No-arrival (net : Meaning) (s d y count : ℕ) : Type 0 where
   pub none : Latest net s d y None
   pub taken : Count (TakenPlace (turned net) (λ v. 0) d (net .last - y) None) (net .places) count
 
+-- the tick that the search starts at: y counted back from the last, or a tick above the last where y is one
+abbrev pub back-tick : ℕ → ℕ → ℕ
+back-tick last y = cond (leb y last) (last - y) (last + 1)
+
+-- the reply of that search with its tick counted back from the last
+abbrev pub counted-back : ℕ → Reply → Reply
+counted-back last (Ok (Found tick roads taken)) = Ok (Found (last - tick) roads taken)
+counted-back last (Ok (Cut-off taken)) = Ok (Cut-off taken)
+counted-back last (Err refusal) = Err refusal
+
 abbrev pub Arrives : Meaning → (ℕ → ℕ) → ℕ → ℕ → ℕ → List ℕ → Reply → Type 0
 Arrives net h s d y list (Ok (Found tick roads taken)) = (roads ≤ length list) × Arrival net h s d y tick (take roads list) taken
 Arrives net h s d y list (Ok (Cut-off taken)) = No-arrival net s d y taken
@@ -142,3 +153,20 @@ pub record Asked (refused : Option Refusal) (places : ℕ) (fit : Type 0) (Told 
   pub empty : refused ≡ None → Empty held′
   -- the cells after the roads stay
   pub rest : drop (filled reply) list′ ≡ drop (filled reply) list
+
+-- A question over the network that is searched, a depart-at question and an arrive-by question, with what was lent before and after.
+abbrev pub Asks : Meaning → (ℕ → ℕ) → Order → ℕ → Question → List ℕ → List ℕ → List ℕ → List ℕ → (ℕ → Option ℕ) → (ℕ → Option ℕ) → Reply → Type 0
+Asks net h order capacity q list list′ table table′ held held′ =
+    Asked (refusal-of net (length table) capacity (q .start) (q .destination) (q .tick)) (net .places) (Fit net h (q .destination))
+    (Searched net h order (q .start) (q .destination) (q .tick) list′) list list′ table table′ held held′
+
+abbrev pub DepartsAt : Meaning → (ℕ → ℕ) → ℕ → Question → List ℕ → List ℕ → List ℕ → List ℕ → (ℕ → Option ℕ) → (ℕ → Option ℕ) → Reply → Type 0
+DepartsAt net h capacity q list list′ table table′ held held′ =
+    Asked (refusal-of net (length table) capacity (q .start) (q .destination) (q .tick)) (net .places) (Fit net h (q .destination))
+    (Departs net h (q .start) (q .destination) (q .tick) list′) list list′ table table′ held held′
+
+-- (its estimate is one for the search back to the start)
+abbrev pub ArrivesBy : Meaning → (ℕ → ℕ) → ℕ → Question → List ℕ → List ℕ → List ℕ → List ℕ → (ℕ → Option ℕ) → (ℕ → Option ℕ) → Reply → Type 0
+ArrivesBy net h capacity q list list′ table table′ held held′ =
+    Asked (refusal-of net (length table) capacity (q .start) (q .destination) (q .tick)) (net .places) (Fit (turned net) h (q .start))
+    (Arrives net h (q .start) (q .destination) (q .tick) list′) list list′ table table′ held held′

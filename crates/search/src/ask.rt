@@ -1,32 +1,37 @@
 // Both questions, over any network, with any queue and any estimate.
 ghost use mathlib.Core.Path.{_≡_};
 ghost use Prim.Native.Nat.{_≤_};
-ghost use lib.ListN.{length, drop};
+ghost use lib.ListN.{drop};
 ghost use Rattle.network.specs.Meaning.{IsPlace};
 ghost use Rattle.queues.specs.Queue.{Empty};
 ghost use Rattle.search.specs.Labels.{Room, Untouched};
-ghost use Rattle.search.specs.Question.{Asked, Arrives, Departs, Fit, Searched, filled, refusal-of};
+ghost use Rattle.search.specs.Question.{ArrivesBy, Asks, DepartsAt, Fit, Searched, back-tick, counted-back, filled, refusal-of};
 use crate::estimate::Estimate;
 use crate::labels::taken;
 use crate::question::Answer;
 use crate::question::Question;
 use crate::relax::search;
+use crate::roads::Order;
 use crate::roads::count_roads;
 use crate::roads::write_roads;
-use crate::roads::Order;
 use crate::work::Work;
 use layers::turned::Turned;
 use layers::turned::TurnedNetwork;
-use network::among;
 use network::Lent;
 use network::LentNetwork;
 use network::Network;
 use network::RefHandle;
+use network::among;
 use queues::Queue;
 use refusals::refusal::Refusal;
 
 // What refuses a question before the search.
-fn refusal<N: Network, Q: Queue>(net: &N, queue: &Q, table: usize, question: Question) -> Option<Refusal>
+fn refusal<N: Network, Q: Queue>(
+    net: &N,
+    queue: &Q,
+    table: usize,
+    question: Question,
+) -> Option<Refusal>
     ensures { λ r. ⌜ r ≡ refusal-of (N·Network .meaning (now (net .entry))) table (Q·Queue .capacity (now (queue .entry))) (question .start) (question .destination) (question .tick) ⌝ }
 {
     let places = net.places();
@@ -68,7 +73,15 @@ fn answer<N: Network, E: Estimate, Q: Queue>(
     ensures capacity { λ _. ⌜ Q·Queue .capacity (now (queue .exit)) ≡ Q·Queue .capacity (now (queue .entry)) ⌝ }
     ensures empty { λ _. ⌜ Empty (Q·Queue .held (now (queue .exit))) ⌝ }
 {
-    search(net, estimate, queue, cells, question.start, question.tick, question.destination);
+    search(
+        net,
+        estimate,
+        queue,
+        cells,
+        question.start,
+        question.tick,
+        question.destination,
+    );
     let label = cells[question.destination as usize - 1];
     let taken = taken(estimate, cells, net.places(), label);
     if label == 0 {
@@ -79,5 +92,101 @@ fn answer<N: Network, E: Estimate, Q: Queue>(
         return Err(Refusal::ShortList { needed: roads });
     }
     write_roads(net, cells, list, question.destination, roads, order);
-    Ok(Answer::Found { tick: label - 1, roads, taken })
+    Ok(Answer::Found {
+        tick: label - 1,
+        roads,
+        taken,
+    })
+}
+
+// Asks over the network that is searched; the roads come in the order asked for.
+fn ask<N: Network, E: Estimate, Q: Queue>(
+    net: &N,
+    estimate: &E,
+    queue: &mut Q,
+    table: &mut [u32],
+    list: &mut [u32],
+    question: Question,
+    order: Order,
+) -> Result<Answer, Refusal>
+    ensures asked { λ r. ⌜ Asks (N·Network .meaning (now (net .entry))) (E·Estimate .ahead (now (estimate .entry))) order (Q·Queue .capacity (now (queue .entry))) question (now (list .entry)) (now (list .exit)) (now (table .entry)) (now (table .exit)) (Q·Queue .held (now (queue .entry))) (Q·Queue .held (now (queue .exit))) r ⌝ }
+    ensures capacity { λ _. ⌜ Q·Queue .capacity (now (queue .exit)) ≡ Q·Queue .capacity (now (queue .entry)) ⌝ }
+{
+    if let Some(refusal) = refusal(net, queue, table.len(), question) {
+        return Err(refusal);
+    }
+    let work = Work {
+        cells: table,
+        count: net.places(),
+    };
+    answer(net, estimate, queue, work.cells, list, question, order)
+}
+
+// Leaving the start at the tick, how soon is one at the destination, and by which roads.
+pub fn depart_at<N: Network, E: Estimate, Q: Queue>(
+    net: &N,
+    estimate: &E,
+    queue: &mut Q,
+    table: &mut [u32],
+    list: &mut [u32],
+    question: Question,
+) -> Result<Answer, Refusal>
+    ensures asked { λ r. ⌜ DepartsAt (N·Network .meaning (now (net .entry))) (E·Estimate .ahead (now (estimate .entry))) (Q·Queue .capacity (now (queue .entry))) question (now (list .entry)) (now (list .exit)) (now (table .entry)) (now (table .exit)) (Q·Queue .held (now (queue .entry))) (Q·Queue .held (now (queue .exit))) r ⌝ }
+    ensures capacity { λ _. ⌜ Q·Queue .capacity (now (queue .exit)) ≡ Q·Queue .capacity (now (queue .entry)) ⌝ }
+{
+    ask(net, estimate, queue, table, list, question, Order::Reversed)
+}
+
+// A tick counted back from the last; one above the last stays above it.
+fn counted_back(last: u32, tick: u32) -> u32
+    requires { ⌜ last ≤ 604800 ⌝ }
+    ensures { λ r. ⌜ r ≡ back-tick last tick ⌝ }
+{
+    if tick > last { last + 1 } else { last - tick }
+}
+
+// The reply of a search on the turned network, with its tick counted back.
+fn turned_reply(last: u32, reply: Result<Answer, Refusal>) -> Result<Answer, Refusal>
+    ensures { λ r. ⌜ r ≡ counted-back last reply ⌝ }
+{
+    match reply {
+        Ok(Answer::Found { tick, roads, taken }) => Ok(Answer::Found {
+            tick: last.saturating_sub(tick),
+            roads,
+            taken,
+        }),
+        Ok(Answer::NoWay { taken }) => Ok(Answer::NoWay { taken }),
+        Err(refusal) => Err(refusal),
+    }
+}
+
+// To be at the destination by the tick, how late may one leave the start, and by which roads.
+pub fn arrive_by<N: Network, E: Estimate, Q: Queue>(
+    net: &N,
+    estimate: &E,
+    queue: &mut Q,
+    table: &mut [u32],
+    list: &mut [u32],
+    question: Question,
+) -> Result<Answer, Refusal>
+    ensures asked { λ r. ⌜ ArrivesBy (N·Network .meaning (now (net .entry))) (E·Estimate .ahead (now (estimate .entry))) (Q·Queue .capacity (now (queue .entry))) question (now (list .entry)) (now (list .exit)) (now (table .entry)) (now (table .exit)) (Q·Queue .held (now (queue .entry))) (Q·Queue .held (now (queue .exit))) r ⌝ }
+    ensures capacity { λ _. ⌜ Q·Queue .capacity (now (queue .exit)) ≡ Q·Queue .capacity (now (queue .entry)) ⌝ }
+{
+    let last = net.last_tick();
+    let backward = Question {
+        start: question.destination,
+        destination: question.start,
+        tick: counted_back(last, question.tick),
+    };
+    let turned = Turned::new(Lent::new(net));
+    let reply = ask(
+        &turned,
+        estimate,
+        queue,
+        table,
+        list,
+        backward,
+        Order::AsFound,
+    );
+    turned_reply(last, reply)
 }

@@ -7,3 +7,6 @@ mod relax;
 mod roads;
 mod seek;
 mod work;
+
+pub use ask::arrive_by;
+pub use ask::depart_at;

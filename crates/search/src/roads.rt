@@ -47,7 +47,14 @@ pub(crate) fn count_roads<N: Network>(net: &N, cells: &[u32], start: u32, place:
 }
 
 // Writes the roads from a place back to the start to the front of a list.
-pub(crate) fn write_roads<N: Network>(net: &N, cells: &[u32], list: &mut [u32], place: u32, count: u32, order: Order)
+pub(crate) fn write_roads<N: Network>(
+    net: &N,
+    cells: &[u32],
+    list: &mut [u32],
+    place: u32,
+    count: u32,
+    order: Order,
+)
     requires labelled { ⌜ Labelled (N·Network .meaning (now net)) (now cells) place ⌝ }
     requires room { ⌜ count ≤ length (now list) ⌝ }
     ensures roads { λ _. ⌜ ((s : ℕ) (back : List ℕ) → Back (N·Network .meaning (now (net .entry))) (arrivals-in (now (cells .entry))) s place back → count ≡ length back → in-order order (take count (now (list .exit))) ≡ back) ⌝ }

@@ -11,9 +11,9 @@ use Rattle.search.proofs.ask.answer.Needs as need
 
 pub taken-taken-requires : need.taken-taken-requires
 taken-taken-requires g c κs = record {
-    long = omega (arith, c .places .ensures, c .pre .room .cells, c .search .kept .cells);
-    early = early (g .N·Network·met .lawful (c .args .net .now)) (c .pre .tick) (c .search .last .cells) (c .search .ensures .sound) (c .places .result) (omega (arith, c .places .ensures));
-  }
+  long = omega (arith, c .places .ensures, c .pre .room .cells, c .search .kept .cells);
+  early = early (g .N·Network·met .lawful (c .args .net .now)) (c .pre .tick) (c .search .last .cells) (c .search .ensures .sound) (c .places .result) (omega (arith, c .places .ensures));
+}
 
 -- the count of places taken, by the goal's label and the network's places
 by-label : (h : ℕ → ℕ) (cells : List ℕ) (goal read places n count : ℕ) → label cells goal ≡ read → places ≡ n → Count (NearIn h read cells) places count → Count (NearIn h (label cells goal) cells) n count
@@ -25,8 +25,8 @@ returns-then-label-eq0 g c =
     let read = label-read (c .search .last .cells) (c .args .question .destination) (c .pre .destination .low) in
     record {
       told = λ fit.
-        told-none _ law _ (c .args .question .start) (c .args .question .destination) (c .args .question .tick) (c .search .last .cells) (c .pre .start) (c .pre .destination) (c .pre .tick) fit (c .search .ensures .found (fit .consistent)) (c .taken-taken .result) (read ∙ c .if-label-eq0 .taken)
-        (by-label _ (c .search .last .cells) (c .args .question .destination) _ _ _ _ read (c .places .ensures) (c .taken-taken .ensures));
+          told-none _ law _ (c .args .question .start) (c .args .question .destination) (c .args .question .tick) (c .search .last .cells) (c .pre .start) (c .pre .destination) (c .pre .tick) fit (c .search .ensures .found (fit .consistent)) (c .taken-taken .result) (read ∙ c .if-label-eq0 .taken)
+          (by-label _ (c .search .last .cells) (c .args .question .destination) _ _ _ _ read (c .places .ensures) (c .taken-taken .ensures));
       list = refl;
       untouched = c .search .ensures .untouched;
       capacity = c .search .ensures .capacity;
@@ -56,8 +56,8 @@ returns-then-roads-list g c =
     let read = label-read (c .search .last .cells) (c .args .question .destination) (c .pre .destination .low) in
     record {
       told = λ fit.
-        told-short _ law _ (c .args .question .start) (c .args .question .destination) (c .args .question .tick) (c .search .last .cells) (c .pre .start) (c .pre .destination) (c .pre .tick) fit (c .search .ensures .found (fit .consistent)) _ (read ∙ above _ (c .if-label-eq0 .left))
-        (c .count-roads-roads .result) (c .count-roads-roads .ensures) _ (c .if-roads-list .taken);
+          told-short _ law _ (c .args .question .start) (c .args .question .destination) (c .args .question .tick) (c .search .last .cells) (c .pre .start) (c .pre .destination) (c .pre .tick) fit (c .search .ensures .found (fit .consistent)) _ (read ∙ above _ (c .if-label-eq0 .left))
+          (c .count-roads-roads .result) (c .count-roads-roads .ensures) _ (c .if-roads-list .taken);
       list = refl;
       untouched = c .search .ensures .untouched;
       capacity = c .search .ensures .capacity;
@@ -83,12 +83,13 @@ returns g c =
     let law = g .N·Network·met .lawful (c .args .net .now) in
     let read = label-read (c .search .last .cells) (c .args .question .destination) (c .pre .destination .low) in
     record {
-      told = λ fit.
-        ( omega (arith, c .write-roads .kept .list, c .if-roads-list .left)
-        , told-way _ law _ (c .args .question .start) (c .args .question .destination) (c .args .question .tick) (c .search .last .cells) (c .pre .start) (c .pre .destination) (c .pre .tick) fit (c .search .ensures .found (fit .consistent)) _ (read ∙ above _ (c .if-label-eq0 .left))
-          (c .count-roads-roads .result) (c .count-roads-roads .ensures) (c .args .order) (c .write-roads .last .list) (c .taken-taken .result)
-          (by-label _ (c .search .last .cells) (c .args .question .destination) _ _ _ _ read (c .places .ensures) (c .taken-taken .ensures))
-          (c .write-roads .ensures .roads) );
+      told = λ fit. (
+        omega (arith, c .write-roads .kept .list, c .if-roads-list .left),
+        told-way _ law _ (c .args .question .start) (c .args .question .destination) (c .args .question .tick) (c .search .last .cells) (c .pre .start) (c .pre .destination) (c .pre .tick) fit (c .search .ensures .found (fit .consistent)) _ (read ∙ above _ (c .if-label-eq0 .left))
+            (c .count-roads-roads .result) (c .count-roads-roads .ensures) (c .args .order) (c .write-roads .last .list) (c .taken-taken .result)
+            (by-label _ (c .search .last .cells) (c .args .question .destination) _ _ _ _ read (c .places .ensures) (c .taken-taken .ensures))
+            (c .write-roads .ensures .roads),
+      );
       list = c .write-roads .ensures .rest;
       untouched = c .search .ensures .untouched;
       capacity = c .search .ensures .capacity;

@@ -30,10 +30,11 @@ loop-at-again g c =
     let n = c .if-link-eq0 .left in
     let f = c .seek-link .ensures .fits (omega arith) in
     let less = fits-less _ law (c .args .cells .now) f in
-    subst (λ v. Labelled (g .N·Network .meaning (c .args .net .now)) (c .args .cells .now) v × (c .loop-at .count + 1 + label (c .args .cells .now) v ≤ label (c .args .cells .now) (c .args .place)) × Walked (g .N·Network .meaning (c .args .net .now)) law (c .args .cells .now) (c .args .start) (c .args .place) (c .loop-at .count + 1) v) (sym (c .tail-at .ensures))
-    ( tail-labelled _ law (c .args .cells .now) (c .loop-at .inv .0) f
-    , omega (arith, less, c .loop-at .inv .1)
-    , walked-more _ law (c .args .cells .now) (c .args .start) (c .args .place) (c .loop-at .count) (c .loop-at .at) (c .seek-link .result) (c .loop-at .inv .2) (c .loop-at .inv .0 .there) (c .loop-at-test .taken) (c .seek-link .ensures) )
+    subst (λ v. Labelled (g .N·Network .meaning (c .args .net .now)) (c .args .cells .now) v × (c .loop-at .count + 1 + label (c .args .cells .now) v ≤ label (c .args .cells .now) (c .args .place)) × Walked (g .N·Network .meaning (c .args .net .now)) law (c .args .cells .now) (c .args .start) (c .args .place) (c .loop-at .count + 1) v) (sym (c .tail-at .ensures)) (
+      tail-labelled _ law (c .args .cells .now) (c .loop-at .inv .0) f,
+      omega (arith, less, c .loop-at .inv .1),
+      walked-more _ law (c .args .cells .now) (c .args .start) (c .args .place) (c .loop-at .count) (c .loop-at .at) (c .seek-link .result) (c .loop-at .inv .2) (c .loop-at .inv .0 .there) (c .loop-at-test .taken) (c .seek-link .ensures),
+    )
 
 pub returns : need.returns
 returns g c = walked-all _ (g .N·Network·met .lawful (c .args .net .now)) (c .args .cells .now) (c .args .start) (c .args .place) (c .loop-at .count) (c .loop-at .at) (c .loop-at .inv .2) (c .loop-at-test .left)
