@@ -40,10 +40,28 @@ impl Memory {
     }
 
     fn ask(&mut self, book: &RoadBook, request: Request) -> Result<Answer, Refusal> {
-        let question = Question { start: request.start, destination: request.destination, tick: request.tick };
+        let question = Question {
+            start: request.start,
+            destination: request.destination,
+            tick: request.tick,
+        };
         match request.kind {
-            Kind::DepartAt => depart_at(book, &NoEstimate, &mut self.queue, &mut self.table, &mut self.list, question),
-            Kind::ArriveBy => arrive_by(book, &NoEstimate, &mut self.queue, &mut self.table, &mut self.list, question),
+            Kind::DepartAt => depart_at(
+                book,
+                &NoEstimate,
+                &mut self.queue,
+                &mut self.table,
+                &mut self.list,
+                question,
+            ),
+            Kind::ArriveBy => arrive_by(
+                book,
+                &NoEstimate,
+                &mut self.queue,
+                &mut self.table,
+                &mut self.list,
+                question,
+            ),
         }
     }
 }
@@ -61,7 +79,12 @@ fn print_answer<W: Write>(out: &mut W, answer: Answer, list: &[u32]) -> io::Resu
     }
 }
 
-fn reply<W: Write>(out: &mut W, book: &RoadBook, memory: &mut Memory, part: &[u8]) -> io::Result<()> {
+fn reply<W: Write>(
+    out: &mut W,
+    book: &RoadBook,
+    memory: &mut Memory,
+    part: &[u8],
+) -> io::Result<()> {
     let request = match request(part) {
         Ok(request) => request,
         Err(unread) => return writeln!(out, "refused {}", unread.number()),
@@ -73,7 +96,12 @@ fn reply<W: Write>(out: &mut W, book: &RoadBook, memory: &mut Memory, part: &[u8
 }
 
 // Prints the reply to each question after the book.
-fn answer_all<W: Write>(out: &mut W, heap: Global, book: &RoadBook, questions: &[u8]) -> io::Result<()> {
+fn answer_all<W: Write>(
+    out: &mut W,
+    heap: Global,
+    book: &RoadBook,
+    questions: &[u8],
+) -> io::Result<()> {
     let mut memory = Memory::new(heap, book.places() as usize)?;
     for part in questions.chunks(16) {
         reply(out, book, &mut memory, part)?;

@@ -2,9 +2,6 @@
 ghost use mathlib.Core.Path.{_≡_};
 ghost use Rattle.quay.specs.Quay.{quay-words, Rows};
 
-#[cfg(test)]
-mod tests;
-
 // The book's words.
 pub fn words() -> [u32; 62]
     ensures { λ r. ⌜ r ≡ quay-words ⌝ }

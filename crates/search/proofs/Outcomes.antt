@@ -18,7 +18,7 @@ use Rattle.search.specs.declared.roads.Order.{Order}
 use Rattle.search.specs.Counting.{Count, TakenPlace}
 use Rattle.search.specs.Labels.{label, arrival-of, Within, NearIn, Found}
 use Rattle.search.specs.RoadLists.{arrivals-in, in-order}
-use Rattle.search.specs.Question.{Fit, Way, No-departure, TooShort}
+use Rattle.search.specs.Question.{Fit, Way, No-departure, TooShort, Reached}
 use Rattle.search.proofs.Tables.{within-less}
 use Rattle.search.proofs.Goals.{near-first, first-near, goal-label, counted}
 use Rattle.search.proofs.Backs.{back-labels}
@@ -67,8 +67,8 @@ module _ (net : Meaning) (law : Laws net) (h : ℕ → ℕ) (s d t : ℕ) (cells
   }
 
   module _ (a : ℕ) (labelled : label cells d ≡ suc a) (roads : ℕ) (counts : (back : List ℕ) → Back net (arrivals-in cells) s d back → roads ≡ length back) where
-    pub told-short : (room : ℕ) → room < roads → TooShort (Back net (earliest net s t) s d) roads room
-    told-short room l = let f = found-back a labelled in (f .list, f .by-earliest, counts (f .list) (f .by-labels), l)
+    pub told-short : (room : ℕ) → room < roads → TooShort (Reached net s d t) (Back net (earliest net s t) s d) roads room
+    told-short room l = let f = found-back a labelled in ((a, goal-label net h s t d cells done (destination .high) (fit .here) .1 a labelled), (f .list, f .by-earliest, counts (f .list) (f .by-labels)), l)
 
     pub told-way : (order : Order) (list : List ℕ) (n : ℕ) → Count (NearIn h (label cells d) cells) (net .places) n
         → ((x : ℕ) (back : List ℕ) → Back net (arrivals-in cells) x d back → roads ≡ length back → in-order order (take roads list) ≡ back)

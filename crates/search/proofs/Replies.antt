@@ -38,7 +38,7 @@ module _ (net : Meaning) (law : Laws net) (h : ℕ → ℕ) (s d t : ℕ) (start
   pub departs : (reply : Reply) → Searched net h Reversed s d t list reply → Departs net h s d t list reply
   departs (Ok (Found a roads n)) w = (w .0, record { earliest = w .1 .first; one-list = w .1 .back; driven = driven a (take roads list) (w .1 .first) (w .1 .back); taken = w .1 .taken })
   departs (Ok (Cut-off n)) w = w
-  departs (Err (ShortList needed)) w = (reverse (w .0), subst (Back net (earliest net s t) s d) (sym (reverse-reverse (w .0))) (w .1), w .2 ∙ sym (length-reverse (w .0)), w .3)
+  departs (Err (ShortList needed)) (reached, (back, found, count), short) = (reached, (reverse back, subst (Back net (earliest net s t) s d) (sym (reverse-reverse back)) found, count ∙ sym (length-reverse back)), short)
   departs (Err NoPlace) w = w
   departs (Err NoTick) w = w
   departs (Err ShortTable) w = w
@@ -65,7 +65,7 @@ module _ (net : Meaning) (law : Laws net) (h : ℕ → ℕ) (s d y : ℕ) (start
         },
       )
   arrives (Ok (Cut-off n)) w = record { none = latest None (w .none); taken = w .taken }
-  arrives (Err (ShortList needed)) w = w
+  arrives (Err (ShortList needed)) ((a, first), list, short) = ((net .last - a, latest (Some a) first), list, short)
   arrives (Err NoPlace) w = w
   arrives (Err NoTick) w = w
   arrives (Err ShortTable) w = w

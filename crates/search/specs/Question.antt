@@ -70,9 +70,13 @@ pub record No-departure (net : Meaning) (s d t count : ℕ) : Type 0 where
   pub none : NoWay net s t d
   pub taken : Count (TakenPlace net (λ v. 0) s t None) (net .places) count
 
--- the road list has `needed` roads, and the list that was lent has fewer cells
-abbrev pub TooShort : (List ℕ → Type 0) → ℕ → ℕ → Type 0
-TooShort IsList needed cells = (roads : List ℕ) × IsList roads × (needed ≡ length roads) × (cells < needed)
+-- there is a way, whose road list has `needed` roads, and the list that was lent has fewer cells
+abbrev pub TooShort : Type 0 → (List ℕ → Type 0) → ℕ → ℕ → Type 0
+TooShort Way IsList needed cells = Way × ((roads : List ℕ) × IsList roads × (needed ≡ length roads)) × (cells < needed)
+
+-- some tick is the earliest arrival
+abbrev pub Reached : Meaning → ℕ → ℕ → ℕ → Type 0
+Reached net s d t = (tick : ℕ) × FirstArrival net s t d tick
 
 -- What one search gives, over the network that is searched: the roads come in the order asked for.
 pub record Way (net : Meaning) (h : ℕ → ℕ) (order : Order) (s d t tick : ℕ) (roads : List ℕ) (count : ℕ) : Type 0 where
@@ -83,7 +87,7 @@ pub record Way (net : Meaning) (h : ℕ → ℕ) (order : Order) (s d t tick : �
 abbrev pub Searched : Meaning → (ℕ → ℕ) → Order → ℕ → ℕ → ℕ → List ℕ → Reply → Type 0
 Searched net h order s d t list (Ok (Found tick roads taken)) = (roads ≤ length list) × Way net h order s d t tick (take roads list) taken
 Searched net h order s d t list (Ok (Cut-off taken)) = No-departure net s d t taken
-Searched net h order s d t list (Err (ShortList needed)) = TooShort (Back net (earliest net s t) s d) needed (length list)
+Searched net h order s d t list (Err (ShortList needed)) = TooShort (Reached net s d t) (Back net (earliest net s t) s d) needed (length list)
 Searched net h order s d t list (Err NoPlace) = ⊥
 Searched net h order s d t list (Err NoTick) = ⊥
 Searched net h order s d t list (Err ShortTable) = ⊥
@@ -92,7 +96,7 @@ Searched net h order s d t list (Err ShortQueue) = ⊥
 abbrev pub Departs : Meaning → (ℕ → ℕ) → ℕ → ℕ → ℕ → List ℕ → Reply → Type 0
 Departs net h s d t list (Ok (Found tick roads taken)) = (roads ≤ length list) × Departure net h s d t tick (take roads list) taken
 Departs net h s d t list (Ok (Cut-off taken)) = No-departure net s d t taken
-Departs net h s d t list (Err (ShortList needed)) = TooShort (RoadList net s t d) needed (length list)
+Departs net h s d t list (Err (ShortList needed)) = TooShort (Reached net s d t) (RoadList net s t d) needed (length list)
 Departs net h s d t list (Err NoPlace) = ⊥
 Departs net h s d t list (Err NoTick) = ⊥
 Departs net h s d t list (Err ShortTable) = ⊥
@@ -135,7 +139,7 @@ counted-back last (Err refusal) = Err refusal
 abbrev pub Arrives : Meaning → (ℕ → ℕ) → ℕ → ℕ → ℕ → List ℕ → Reply → Type 0
 Arrives net h s d y list (Ok (Found tick roads taken)) = (roads ≤ length list) × Arrival net h s d y tick (take roads list) taken
 Arrives net h s d y list (Ok (Cut-off taken)) = No-arrival net s d y taken
-Arrives net h s d y list (Err (ShortList needed)) = TooShort (RoadListBy net s d y) needed (length list)
+Arrives net h s d y list (Err (ShortList needed)) = TooShort ((tick : ℕ) × Latest net s d y (Some tick)) (RoadListBy net s d y) needed (length list)
 Arrives net h s d y list (Err NoPlace) = ⊥
 Arrives net h s d y list (Err NoTick) = ⊥
 Arrives net h s d y list (Err ShortTable) = ⊥

@@ -1,8 +1,8 @@
 // The Quay book and damaged copies of it, run through the code.
-use crate::words;
 use books::net::RoadNetwork;
 use books::road::RoadBook;
 use network::Network;
+use quay::words;
 use records::refused::RefusedDebug;
 use refusals::fault::Cause;
 use refusals::fault::CauseDebug;
