@@ -1,8 +1,8 @@
 -- An open road book is a network that keeps the laws.
-use Prim.Native.Nat.{ℕ, zero, suc, _+_, _-_, _≤_, _<_}
+use Prim.Native.Nat.{ℕ, _+_, _-_, _≤_}
 use mathlib.Core.Path.{_≡_, refl, sym, ap, subst, _∙_}
 use mathlib.Core.Logic.{_⊎_, ⊎-elim, ∥∥₁-elim}
-use mathlib.Core.Bool.{Bool, true, false, cond}
+use mathlib.Core.Bool.{Bool, true, false}
 use mathlib.Core.List.{List, [], map}
 use native.Mathlib.Omega.{arith}
 use lib.Dec.{T, leb}
@@ -10,7 +10,7 @@ use Rattle.std.proofs.shelf.Tests.{le-leb, lt-leb, cond-both, cond-true, cond-f
 use Rattle.std.specs.declared.option.Option.{Option}
 use Rattle.std.specs.declared.option.Option.the-variants.{None, Some}
 use Rattle.std.specs.Of.Vec.{vec-items}
-use Rattle.network.specs.Meaning.{Among, IsLink}
+use Rattle.network.specs.Meaning.{Among}
 use Rattle.network.specs.Laws.{Laws, Between, NoLater}
 use Rattle.network.specs.Links.{lowest, first, next, first-out, next-out, first-in, next-in}
 use Rattle.network.specs.Latest.{latest}
@@ -23,7 +23,7 @@ use Rattle.refusals.specs.declared.fault.Fault.{Fault}
 use Rattle.records.specs.declared.records.Records.{Records}
 use Rattle.books.specs.declared.road.RoadBook.{RoadBook}
 use Rattle.records.specs.Layout.{header-in, Within, no-place, no-link, place-at, link-at}
-use Rattle.records.specs.Book.{Book, laid-out, book-in, chain, points-of, end-of, lowest-after}
+use Rattle.records.specs.Book.{Book, laid-out, book-in, points-of, end-of, lowest-after}
 use Rattle.records.specs.Rules.{All-timely, Road, Well-formed, Obeys}
 use Rattle.books.specs.Roads.{road, road-back, road-network}
 use Rattle.records.specs.Faults.{first-fault}

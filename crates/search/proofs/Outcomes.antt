@@ -1,11 +1,10 @@
 -- What the labels of a search tell of the question that it was for.
-use Prim.Native.Nat.{ℕ, zero, suc, _+_, _≤_, _<_}
-use mathlib.Core.Path.{_≡_, refl, sym, ap, subst, _∙_}
+use Prim.Native.Nat.{ℕ, suc, _+_, _≤_, _<_}
+use mathlib.Core.Path.{_≡_, sym, ap, subst}
 use mathlib.Core.List.{List, reverse}
 use native.Mathlib.Omega.{arith}
 use lib.ListN.{length, take}
-use Rattle.std.specs.declared.option.Option.{Option}
-use Rattle.std.specs.declared.option.Option.the-variants.{None, Some}
+use Rattle.std.specs.declared.option.Option.the-variants.{Some}
 use Rattle.network.specs.Meaning.{Meaning, IsPlace}
 use Rattle.network.specs.Laws.{Laws}
 use Rattle.journeys.specs.Journey.{FirstArrival, Earliest}
@@ -18,7 +17,8 @@ use Rattle.search.specs.declared.roads.Order.{Order}
 use Rattle.search.specs.Counting.{Count, TakenPlace}
 use Rattle.search.specs.Labels.{label, arrival-of, Within, NearIn, Found}
 use Rattle.search.specs.RoadLists.{arrivals-in, in-order}
-use Rattle.search.specs.Question.{Fit, Way, No-departure, TooShort, Reached}
+use Rattle.search.specs.Estimate.{Fit}
+use Rattle.search.specs.Question.{Way, No-departure, TooShort, Reached}
 use Rattle.search.proofs.Tables.{within-less}
 use Rattle.search.proofs.Goals.{near-first, first-near, goal-label, counted}
 use Rattle.search.proofs.Backs.{back-labels}

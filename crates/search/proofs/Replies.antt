@@ -25,7 +25,8 @@ use Rattle.refusals.specs.declared.refusal.Refusal.the-variants.{NoPlace, NoTic
 use Rattle.search.specs.declared.question.Answer.the-variants.{Found, NoWay as Cut-off}
 use Rattle.search.specs.declared.roads.Order.the-variants.{AsFound, Reversed}
 use Rattle.search.specs.Counting.{Count, TakenPlace}
-use Rattle.search.specs.Question.{Reply, Fit, Searched, Departs, Arrives, Latest, Asked, refusal-of, back-tick, counted-back, filled}
+use Rattle.search.specs.Estimate.{Fit}
+use Rattle.search.specs.Question.{Reply, Searched, Departs, Arrives, Latest, Asked, refusal-of, back-tick, counted-back, filled}
 use Rattle.search.proofs.Refusing.{admitted, refusal-turned}
 
 module _ (net : Meaning) (law : Laws net) (h : ℕ → ℕ) (s d t : ℕ) (start : IsPlace net s) (tick : t ≤ net .last) (list : List ℕ) where

@@ -2,14 +2,13 @@
 use Prim.Native.Nat.{ℕ, zero, suc, _+_, _-_, _≤_, _<_}
 use mathlib.Core.Path.{_≡_, refl, sym, ap, subst, _∙_}
 use mathlib.Core.Logic.{⊎-elim}
-use mathlib.Core.List.{List, [], _∷_, reverse}
+use mathlib.Core.List.{List, _∷_, reverse}
 use native.Mathlib.Omega.{arith}
 use lib.ListN.{length, getD, set, take, drop}
 use Rattle.std.proofs.shelf.Tests.{cases-lt, cases-eq}
 use Rattle.std.proofs.shelf.Lists.{drop-all, drop-more, ext-getD, getD-reverse, getD-take, length-take-le, length-reverse, getD-set-same, getD-set-other}
-use Rattle.std.specs.declared.option.Option.{Option}
-use Rattle.std.specs.declared.option.Option.the-variants.{None, Some}
-use Rattle.network.specs.Meaning.{Meaning, IsLink, IsPlace}
+use Rattle.std.specs.declared.option.Option.the-variants.{Some}
+use Rattle.network.specs.Meaning.{Meaning}
 use Rattle.network.specs.Laws.{Laws}
 use Rattle.journeys.specs.Earliest.{after}
 use Rattle.journeys.specs.Roads.{InTime, Lowest, Back}

@@ -23,7 +23,7 @@ use Rattle.search.specs.declared.question.Question.{Question}
 use Rattle.search.specs.declared.question.Answer.{Answer}
 use Rattle.search.specs.declared.question.Answer.the-variants.{Found, NoWay as Cut-off}
 use Rattle.search.specs.declared.roads.Order.{Order}
-use Rattle.search.specs.Estimate.{Consistent}
+use Rattle.search.specs.Estimate.{Fit}
 use Rattle.search.specs.Counting.{Count, TakenPlace}
 use Rattle.search.specs.Labels.{Wiped}
 use Rattle.search.specs.RoadLists.{in-order}
@@ -50,11 +50,6 @@ abbrev pub filled : Reply → ℕ
 filled (Ok (Found tick roads taken)) = roads
 filled (Ok (Cut-off taken)) = 0
 filled (Err refusal) = 0
-
--- an estimate that a search for place d may use: it never falls along a link by more than the link's floor, and is 0 at d
-pub record Fit (net : Meaning) (h : ℕ → ℕ) (d : ℕ) : Type 0 where
-  pub consistent : Consistent net h
-  pub here : h d ≡ 0
 
 -- What a depart-at question is answered, where it is not refused before the search.
 

@@ -1,8 +1,7 @@
-use Prim.Native.Nat.{_-_, _<_}
+use Prim.Native.Nat.{_-_}
 use mathlib.Core.Path.{subst}
 use native.Mathlib.Omega.{arith}
 use Rattle.records.specs.Rules.{Follows}
-use Rattle.books.specs.Roads.{Departs-before}
 use Rattle.books.proofs.Lines.{share-top}
 use Rattle.books.proofs.drives.up_to.Needs as need
 

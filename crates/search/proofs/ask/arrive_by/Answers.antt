@@ -1,4 +1,4 @@
-use mathlib.Core.Path.{_≡_, ap, _∙_}
+use mathlib.Core.Path.{ap, _∙_}
 use Rattle.journeys.specs.Turned.{turned}
 use Rattle.search.proofs.Replies.{asked-by}
 use Rattle.search.proofs.ask.arrive_by.Needs as need

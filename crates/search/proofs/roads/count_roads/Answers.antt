@@ -1,7 +1,7 @@
 use Prim.Native.Nat.{_+_, _≤_, _<_}
-use mathlib.Core.Path.{_≡_, sym, subst}
+use mathlib.Core.Path.{sym, subst}
 use native.Mathlib.Omega.{arith}
-use Rattle.search.specs.Labels.{label, Fits}
+use Rattle.search.specs.Labels.{label}
 use Rattle.search.specs.RoadLists.{Labelled}
 use Rattle.search.proofs.RoadWalks.{Walked, tail-labelled, fits-less, walked-none, walked-more, walked-stuck, walked-all}
 use Rattle.search.proofs.roads.count_roads.Needs as need

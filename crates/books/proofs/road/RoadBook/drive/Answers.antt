@@ -1,11 +1,10 @@
 use Prim.Native.Nat.{ℕ}
-use mathlib.Core.Path.{_≡_, refl, sym, ap, _∙_}
+use mathlib.Core.Path.{refl, sym, ap, _∙_}
 use Rattle.std.proofs.shelf.Tests.{cond-true, cond-false, le-leb, lt-leb}
 use Rattle.std.specs.declared.option.Option.{Option}
 use Rattle.std.specs.declared.option.Option.the-variants.{Some}
 use Rattle.records.specs.declared.layout.Link.{Link}
 use Rattle.books.specs.Opened.{open-book}
-use Rattle.books.specs.Roads.{along, Departs-before}
 use Rattle.books.proofs.Sound.{sound, is-road}
 use Rattle.books.proofs.Walks.{walk-start, walk-end, walk-spent, walk-order, walk-here, walk-more}
 use Rattle.books.proofs.road.RoadBook.drive.Needs as need

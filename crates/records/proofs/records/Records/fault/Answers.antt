@@ -1,4 +1,4 @@
-use mathlib.Core.Path.{_≡_, sym, ap, _∙_}
+use mathlib.Core.Path.{sym, ap, _∙_}
 use Rattle.records.specs.Faults.{fault-by, link-fault, point-fault}
 use Rattle.records.specs.Reading.{book-of}
 use Rattle.records.proofs.records.Records.fault.Needs as need

@@ -1,8 +1,7 @@
-use mathlib.Core.Path.{_≡_, sym, ap, _∙_}
-use native.Mathlib.Omega.{arith}
+use mathlib.Core.Path.{sym, ap, _∙_}
 use Rattle.records.specs.Faults.{fault-by, first-of}
 use Rattle.records.specs.Reading.{book-of}
-use Rattle.records.proofs.Firsts.{clean-start, clean-hit, clean-more, clean-all}
+use Rattle.records.proofs.Firsts.{clean-start, clean-hit, clean-more}
 use Rattle.records.proofs.records.Records.first.Needs as need
 
 pub loop-number-holds : need.loop-number-holds
