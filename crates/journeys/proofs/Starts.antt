@@ -14,7 +14,7 @@ use Rattle.journeys.specs.Journey.{Journey, Drive, Reaches, CanReach, Earliest
 use Rattle.journeys.specs.Journey.Journey.{stay, ride}
 use Rattle.journeys.specs.Earliest.{earliest}
 use Rattle.journeys.specs.Roads.{Back}
-use Rattle.journeys.specs.Turned.{less, turned, latest-start, LatestStart}
+use Rattle.journeys.specs.Turned.{less, turned, latest-start}
 use Rattle.journeys.proofs.Rides.{within, onto, driven, no-wait, journey-within}
 use Rattle.journeys.proofs.Arrivals.{exact}
 use Rattle.journeys.proofs.RoadLists.{back-driven}
@@ -65,15 +65,6 @@ module _ (net : Meaning) (law : Laws net) (s d y : ℕ) (place : IsPlace net d) 
 
       forward : CanReach (turned net) d (net .last - y) s (net .last - x) → CanReach net s x d y
       forward r = (reverse (r .0), turned-journeys net law s x d y (reverse (r .0)) xl yl .1 (subst (λ q. Reaches (turned net) d (net .last - y) q s (net .last - x)) (sym (reverse-reverse (r .0))) (r .1)))
-
-  pub start-latest : (x : ℕ) → latest-start net s d y ≡ Some x → LatestStart net s d y x
-  start-latest x e =
-      let (a, ea, q) = less-some (net .last) x _ e in
-      let here : x ≤ x = omega arith in
-      record {
-        reached = start-exact x (omega arith) .1 (subst (NotBefore x) (sym e) here);
-        most = λ z zl r. subst (NotBefore z) e (start-exact z zl .0 r);
-      }
 
   pub arrive-by : (x : ℕ) (back : List ℕ) → latest-start net s d y ≡ Some x → Back (turned net) (earliest (turned net) d (net .last - y)) d s back → (b : ℕ) × Drive net s x back d b × (b ≤ y)
   arrive-by x back e f =

@@ -1,12 +1,11 @@
 -- The network read backward in time, and the latest start of one who has to be there by a tick.
-use Prim.Native.Nat.{ℕ, _-_, _≤_}
+use Prim.Native.Nat.{ℕ, _-_}
 use mathlib.Core.Bool.{cond}
 use lib.Dec.{leb}
 use Rattle.std.specs.declared.option.Option.{Option}
 use Rattle.std.specs.declared.option.Option.the-variants.{None, Some}
 use Rattle.network.specs.Meaning.{Meaning}
 use Rattle.network.specs.Latest.{latest}
-use Rattle.journeys.specs.Journey.{CanReach}
 use Rattle.journeys.specs.Earliest.{earliest}
 
 -- the last tick less that many, or none
@@ -29,8 +28,3 @@ turned net = record {
 -- the latest tick at s of one who can be at d by tick y, or none: found by going backward from d
 abbrev pub latest-start : Meaning → ℕ → ℕ → ℕ → Option ℕ
 latest-start net s d y = less (net .last) (earliest (turned net) d (net .last - y) s)
-
--- who is at s at tick x can be at d by tick y, and no later tick up to the last will do
-pub record LatestStart (net : Meaning) (s d y x : ℕ) : Type 0 where
-  pub reached : CanReach net s x d y
-  pub most : (z : ℕ) → z ≤ net .last → CanReach net s z d y → z ≤ x

@@ -48,6 +48,3 @@ module _ (end : ℕ → ℕ) (v : ℕ) where
 
     pub lowest-more : (k : ℕ) → k < n → Scanned k → (end (k + 1) ≡ v → ⊥) → Scanned (k + 1)
     lowest-more k h s e = sym (ap (λ b. cond b (k + 1) (lowest end v (k + 1) (n - (k + 1)))) (ne-eqb _ _ e)) ∙ (sym (split k h) ∙ s)
-
-    pub lowest-all : (k : ℕ) → n ≤ k → Scanned k → 0 ≡ lowest end v after (n - after)
-    lowest-all k h s = let e : n - k ≡ 0 = omega arith in sym (ap (lowest end v k) e) ∙ s

@@ -47,6 +47,3 @@ module _ (fault : ℕ → Option Fault) where
 
     pub clean-more : (k : ℕ) → k ≤ n → Clean-below k → fault k ≡ None → Clean-below (k + 1)
     clean-more k h s e = sym (ap (λ x. or-else x (first-from fault (k + 1) (n + 1 - (k + 1)))) e) ∙ (sym (split k h) ∙ s)
-
-    pub clean-all : (k : ℕ) → n < k → Clean-below k → None ≡ first-of fault n
-    clean-all k h s = let e : n + 1 - k ≡ 0 = omega arith in sym (ap (first-from fault k) e) ∙ s

@@ -1,11 +1,9 @@
 -- One test after another, and the first fault of two.
 use Prim.Native.Nat.{ℕ}
-use mathlib.Core.Path.{_≡_, refl, sym, ap, _∙_}
-use mathlib.Core.Bool.{Bool, true, false, _&&_}
-use mathlib.Core.Logic.{_⊎_, inl, inr}
+use mathlib.Core.Path.{_≡_, refl, ap, _∙_}
+use mathlib.Core.Bool.{Bool, true, false}
 use native.Mathlib.Omega.{arith}
-use lib.Dec.{eqb}
-use Rattle.std.proofs.shelf.Tests.{cond-true, cond-false, eq-eqb, ne-eqb, and-from, and-left, and-right}
+use Rattle.std.proofs.shelf.Tests.{cond-true, cond-false}
 use Rattle.std.specs.declared.option.Option.{Option}
 use Rattle.std.specs.declared.option.Option.the-variants.{None, Some}
 use Rattle.refusals.specs.declared.fault.Cause.{Cause}
@@ -43,11 +41,3 @@ or-first a b f e = ap (λ x. or-else x b) e
 
 pub or-next : (a b : Option Fault) → a ≡ None → or-else a b ≡ b
 or-next a b e = ap (λ x. or-else x b) e
-
--- two numbers that should be two others
-pub caught-either : (c : Cause) (r : Record) (m n x y : ℕ) → (m ≡ n → ⊥) ⊎ (x ≡ y → ⊥) → fault c r ≡ unless (eqb m n && eqb x y) c r None
-caught-either c r m n x y (inl h) = sym (caught _ c r None (and-left _ (eqb x y) (ne-eqb m n h)))
-caught-either c r m n x y (inr h) = sym (caught _ c r None (and-right (eqb m n) _ (ne-eqb x y h)))
-
-pub passed-both : (c : Cause) (r : Record) (m n x y : ℕ) → m ≡ n → x ≡ y → None ≡ unless (eqb m n && eqb x y) c r None
-passed-both c r m n x y h k = sym (passed _ c r None (and-from _ _ (eq-eqb m n h) (eq-eqb x y k)))
