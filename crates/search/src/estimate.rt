@@ -28,5 +28,4 @@ pub impl Estimate for NoEstimate as NoEstimateEstimate {
 // Without an estimate every answer is right.
 pub fn nothing_is_fit()
     ensures { λ _. ⌜ Nothing-is-fit ⌝ }
-{
-}
+{}
