@@ -26,7 +26,7 @@ pub data Back (net : Meaning) (A : ℕ → Option ℕ) (s : ℕ) : ℕ → List 
   home : Back net A s s []
   over : {v k : ℕ} {rest : List ℕ} → (v ≡ s → ⊥) → Lowest net A v k → Back net A s (net .tail k) rest → Back net A s v (k ∷ rest)
 
--- The road list from s at t to v, in the order in which it is driven, where A are the earliest arrivals.
+-- The road list from s at t to v, in the order in which it is driven, by the earliest arrivals from s at t.
 abbrev pub RoadList : Meaning → ℕ → ℕ → ℕ → List ℕ → Type 0
 RoadList net s t v roads = Back net (earliest net s t) s v (reverse roads)
 

@@ -2,7 +2,7 @@
 ghost use mathlib.Core.Path.{_≡_};
 ghost use Rattle.quay.specs.Quay.{quay-words, Rows};
 
-// The book's words.
+// The book's words; a comment ends each part.
 pub fn words() -> [u32; 62]
     ensures { λ r. ⌜ r ≡ quay-words ⌝ }
 {
@@ -23,7 +23,7 @@ pub fn words() -> [u32; 62]
         3,
         0,
         5,
-        1, // links
+        1,
         2,
         3,
         0,
@@ -41,7 +41,7 @@ pub fn words() -> [u32; 62]
         0,
         0,
         20,
-        8,
+        8, // links
         0,
         10,
         2,
@@ -50,7 +50,7 @@ pub fn words() -> [u32; 62]
         3,
         20,
         40,
-        0, // points
+        0,
         0,
         20,
         5,
@@ -68,7 +68,7 @@ pub fn words() -> [u32; 62]
         9,
         40,
         60,
-        0,
+        0, // points
     ]
 }
 

@@ -121,7 +121,7 @@ pub record No-arrival (net : Meaning) (s d y count : ℕ) : Type 0 where
   pub none : Latest net s d y None
   pub taken : Count (TakenPlace (turned net) (λ v. 0) d (net .last - y) None) (net .places) count
 
--- the tick that the search starts at: y counted back from the last, or a tick above the last where y is one
+-- the tick that the search starts at: y counted back from the last, or one above the last where y is above it
 abbrev pub back-tick : ℕ → ℕ → ℕ
 back-tick last y = cond (leb y last) (last - y) (last + 1)
 

@@ -25,7 +25,7 @@ pub impl Estimate for NoEstimate as NoEstimateEstimate {
     }
 }
 
-// Without an estimate every answer is right.
+// The estimate that says nothing is fit for every search.
 pub fn nothing_is_fit()
     ensures { λ _. ⌜ Nothing-is-fit ⌝ }
 {}

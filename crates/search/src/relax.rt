@@ -84,8 +84,8 @@ fn begin<N: Network, E: Estimate, Q: Queue>(
     queue.offer(start, tick + estimate.ahead(start));
 }
 
-// Labels each place with its earliest arrival from the start at the tick; where a goal is given, at least each place whose
-// arrival is, with the estimate, no later than the goal's. A goal of 0 is none.
+// With a consistent estimate, labels each place with its earliest arrival from the start at the tick; where a goal is given, at least
+// each place whose arrival is, with the estimate, no later than the goal's. A goal of 0 is none.
 pub(crate) fn search<N: Network, E: Estimate, Q: Queue>(
     net: &N,
     estimate: &E,
