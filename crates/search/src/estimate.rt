@@ -17,6 +17,11 @@ pub trait Estimate {
 #[derive(Clone, Copy)]
 pub struct NoEstimate;
 
+// It is fit for every search.
+pub fn nothing_is_fit()
+    ensures { λ _. ⌜ Nothing-is-fit ⌝ }
+{}
+
 pub impl Estimate for NoEstimate as NoEstimateEstimate {
     ghost ahead = { λ e v. 0 };
 
@@ -24,8 +29,3 @@ pub impl Estimate for NoEstimate as NoEstimateEstimate {
         0
     }
 }
-
-// The estimate that says nothing is fit for every search.
-pub fn nothing_is_fit()
-    ensures { λ _. ⌜ Nothing-is-fit ⌝ }
-{}
