@@ -23,7 +23,7 @@ impl ScanQueue {
 
     // The table, to be used again.
     pub fn into_table(self) -> Vec<Option<u32>>
-        ensures { λ r. ⌜ vec-len r ≡ vec-len (self .keys) ⌝ }
+        ensures { λ r. ⌜ r ≡ self .keys ⌝ }
     {
         self.keys
     }
