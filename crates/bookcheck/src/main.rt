@@ -1,5 +1,7 @@
 // Checks a road book on standard input and says in sentences what it found. The status is 0 exactly when the input
 // is one book that is accepted.
+#![tactic(auto)]
+
 use anyhow::anyhow;
 use books::road::RoadBook;
 use network::Network;

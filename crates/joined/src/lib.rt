@@ -1,4 +1,6 @@
 // Two networks as one.
+#![tactic(auto)]
+
 ghost use Rattle.std.specs.Prelude.{◌≡◌, ◌≤◌, Some, None, MatchResult};
 ghost use Rattle.joined.specs.Joined.{misfit, joined, second_link, numbered_on};
 ghost use Rattle.joined.specs.Joins.{joined_laws};

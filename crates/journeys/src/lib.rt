@@ -1,4 +1,6 @@
 // Journeys over any network. The definitions are in specs/; each function here carries one theorem, which holds of every network.
+#![tactic(auto)]
+
 ghost use Rattle.journeys.specs.Theorems.{WaitsGainNothing, EarliestIsOne, EarliestIsComputed, LatestIsExact, OneRoadList, TurnedKeepsTheLaws, TurnedTwice, TurnedJourneys, LatestStartIsExact, ArriveByRoads};
 
 // Over the same roads, who doesn't wait arrives no later.

@@ -1,4 +1,6 @@
 // Layers over the worked example, over each other and at their edges, with arrivals and latest departures worked out by hand.
+#![tactic(auto)]
+
 #[cfg(test)]
 mod joins;
 #[cfg(test)]

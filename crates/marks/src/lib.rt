@@ -1,4 +1,6 @@
 // Marks: columns of numbers that let a question look at fewer places.
+#![tactic(auto)]
+
 ghost use Rattle.marks.specs.Estimates.{MarksAreFit};
 
 mod columns;

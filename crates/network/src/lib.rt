@@ -1,4 +1,6 @@
 // What every network of places and timed links shows, by its meaning.
+#![tactic(auto)]
+
 ghost use Rattle.std.specs.Prelude.{◌≡◌};
 ghost use Rattle.network.specs.Meaning.{Meaning, among};
 ghost use Rattle.network.specs.Laws.{Laws};

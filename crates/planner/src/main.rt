@@ -1,4 +1,6 @@
 // Answers questions over a road book. Standard input has the book and then the questions, four words each; each gets one line.
+#![tactic(auto)]
+
 use books::road::RoadBook;
 use network::Network;
 use queues::Queue;

@@ -1,4 +1,6 @@
 // The worked example: the Quay book, with three places and four links.
+#![tactic(auto)]
+
 ghost use Rattle.std.specs.Prelude.{◌≡◌};
 ghost use Rattle.quay.specs.Quay.{quay_words, Rows};
 

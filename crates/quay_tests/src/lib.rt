@@ -1,4 +1,6 @@
 // The worked example and books made from it, run through the code.
+#![tactic(auto)]
+
 #[cfg(test)]
 mod marks;
 #[cfg(test)]

@@ -1,4 +1,6 @@
 // What every queue of places shows, by its meaning, and the queue that scans a table.
+#![tactic(auto)]
+
 ghost use Rattle.std.specs.Prelude.{◌≡◌, ℕ, Option};
 ghost use Rattle.queues.specs.Queue.{Empty, Offered, Taken};
 

@@ -1,4 +1,6 @@
 // A book's records: how they lie in its words, the rules that they obey, and the first fault where one breaks a rule.
+#![tactic(auto)]
+
 pub mod bytes;
 pub mod checks;
 mod header;

@@ -1,4 +1,6 @@
 // What is refused, by its number and in words.
+#![tactic(auto)]
+
 pub mod fault;
 pub mod joining;
 pub mod refusal;

@@ -1,4 +1,6 @@
 // What an input asks: how much of it is the book at its front, and the questions after that.
+#![tactic(auto)]
+
 ghost use Rattle.std.specs.Prelude.{◌≡◌, ◌+◌, ◌*◌, ◌<◌, ◌≤◌, length, IfOk, Some, None, MatchResult};
 ghost use Rattle.records.specs.Bytes.{word_at};
 ghost use Rattle.records.specs.Layout.{header_in, size};

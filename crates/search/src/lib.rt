@@ -1,4 +1,6 @@
 // How soon and how late: the search for earliest arrivals and both questions, over any network, with any queue and any estimate.
+#![tactic(auto)]
+
 mod ask;
 pub mod estimate;
 mod labels;
