@@ -8,5 +8,5 @@ pub returns : goal.returns
 returns c =
     record {
       capacity = refl;
-      empty = lent c.args.self.now.keys _ c.empty.new.keys c.deref-mut.ensures.value (omega arith) (λ _ _ after. Empty (held_in after)) c.empty.ensures;
+      empty = lent c.args.self.now.keys _ c.empty.new.keys c.deref_mut.ensures.value (omega arith) (λ _ _ after. Empty (held_in after)) c.empty.ensures;
     }

@@ -8,5 +8,5 @@ pub returns : goal.returns
 returns c =
     record {
       capacity = refl;
-      offered = lent c.args.self.now.keys _ c.lower.new.keys c.deref-mut.ensures.value (omega arith) (λ capacity before after. Offered (held_in before) (held_in after) capacity c.args.place c.args.key c.lower.result) c.lower.ensures;
+      offered = lent c.args.self.now.keys _ c.lower.new.keys c.deref_mut.ensures.value (omega arith) (λ capacity before after. Offered (held_in before) (held_in after) capacity c.args.place c.args.key c.lower.result) c.lower.ensures;
     }

@@ -8,5 +8,5 @@ pub returns : goal.returns
 returns c =
     record {
       capacity = refl;
-      taken = lent c.args.self.now.keys _ c.take-best.new.keys c.deref-mut.ensures.value (omega arith) (λ _ before after. Taken (held_in before) (held_in after) c.take-best.result) c.take-best.ensures;
+      taken = lent c.args.self.now.keys _ c.take_best.new.keys c.deref_mut.ensures.value (omega arith) (λ _ before after. Taken (held_in before) (held_in after) c.take_best.result) c.take_best.ensures;
     }
