@@ -1,5 +1,5 @@
 // Two networks joined.
-use crate::tables::{arrivals, departures, links};
+use crate::answers::{arrivals, departures, links};
 use books::road::RoadBook;
 use joined::Joined;
 use network::Network;

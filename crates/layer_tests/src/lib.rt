@@ -2,8 +2,8 @@
 #![tactic(auto)]
 
 #[cfg(test)]
+mod answers;
+#[cfg(test)]
 mod joins;
 #[cfg(test)]
 mod piles;
-#[cfg(test)]
-mod tables;

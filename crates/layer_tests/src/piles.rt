@@ -1,5 +1,5 @@
 // Closures, delays, free flow and turning.
-use crate::tables::{arrivals, departures};
+use crate::answers::{arrivals, departures};
 use books::road::RoadBook;
 use layers::free_flow::FreeFlow;
 use layers::over::Over;

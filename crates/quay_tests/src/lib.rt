@@ -2,7 +2,7 @@
 #![tactic(auto)]
 
 #[cfg(test)]
-mod marks;
+mod columns;
 #[cfg(test)]
 mod opening;
 #[cfg(test)]
