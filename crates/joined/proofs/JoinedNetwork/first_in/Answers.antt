@@ -7,11 +7,11 @@ use Rattle.joined.proofs.JoinedNetwork.first_in.Goals as goal
 
 pub returns-then-first-ne0 : goal.returns-then-first-ne0
 returns-then-first-ne0 g c =
-    c.first-in-first.ensures
-    ∙ first_of_first (g.A.Network.meaning c.args.self.now.first) (g.B.Network.meaning c.args.self.now.second) (λ (m : Meaning). m.head) (λ k. refl) c.args.place (λ z. c.if-first-ne0.true (c.first-in-first.ensures ∙ z))
+    c.first_in-first.ensures
+    ∙ first_of_first (g.A.Network.meaning c.args.self.now.first) (g.B.Network.meaning c.args.self.now.second) (λ (m : Meaning). m.head) (λ k. refl) c.args.place (λ z. c.if-first-ne0.true (c.first_in-first.ensures ∙ z))
 
-pub numbered-on-requires : goal.numbered-on-requires
-numbered-on-requires g c =
+pub numbered_on-requires : goal.numbered_on-requires
+numbered_on-requires g c =
     let b = g.B.Network.meaning c.args.self.now.second in
     omega (arith, first_high b b.head c.args.place, c.first_in.ensures)
 
@@ -19,4 +19,4 @@ pub returns : goal.returns
 returns g c =
     let a = g.A.Network.meaning c.args.self.now.first in
     let b = g.B.Network.meaning c.args.self.now.second in
-    c.numbered_on.ensures ∙ (ap (numbered_on a b) c.first_in.ensures ∙ first_of_second a b (λ (m : Meaning). m.head) (λ k. refl) c.args.place (sym c.first-in-first.ensures ∙ c.if-first-ne0.false))
+    c.numbered_on.ensures ∙ (ap (numbered_on a b) c.first_in.ensures ∙ first_of_second a b (λ (m : Meaning). m.head) (λ k. refl) c.args.place (sym c.first_in-first.ensures ∙ c.if-first-ne0.false))

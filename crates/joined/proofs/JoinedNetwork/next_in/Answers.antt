@@ -6,8 +6,8 @@ use Rattle.joined.specs.Joined.{numbered_on}
 use Rattle.joined.proofs.JoinedLinks.{next_in_second, next_in_first, next_past_first}
 use Rattle.joined.proofs.JoinedNetwork.next_in.Goals as goal
 
-pub numbered-on-requires : goal.numbered-on-requires
-numbered-on-requires g c =
+pub numbered_on-requires : goal.numbered_on-requires
+numbered_on-requires g c =
     let b = g.B.Network.meaning c.args.self.now.second in
     omega (arith, next_high b b.head c.in-Some.second, c.next_in.ensures)
 
@@ -19,11 +19,11 @@ returns-in-Some g c =
 
 pub returns-then-next-ne0 : goal.returns-then-next-ne0
 returns-then-next-ne0 g c =
-    c.next-in-next.ensures
-    ∙ next_in_first (g.A.Network.meaning c.args.self.now.first) (g.B.Network.meaning c.args.self.now.second) (λ (m : Meaning). m.head) (λ k. refl) c.args.link (sym c.in-default.ensures) (λ z. c.if-next-ne0.true (c.next-in-next.ensures ∙ z))
+    c.next_in-next.ensures
+    ∙ next_in_first (g.A.Network.meaning c.args.self.now.first) (g.B.Network.meaning c.args.self.now.second) (λ (m : Meaning). m.head) (λ k. refl) c.args.link (sym c.in_default.ensures) (λ z. c.if-next-ne0.true (c.next_in-next.ensures ∙ z))
 
-pub numbered-on-requires-2 : goal.numbered-on-requires-2
-numbered-on-requires-2 g c =
+pub numbered_on-requires-2 : goal.numbered_on-requires-2
+numbered_on-requires-2 g c =
     let b = g.B.Network.meaning c.args.self.now.second in
     omega (arith, first_high b b.head c.head.result, c.first_in.ensures)
 
@@ -32,6 +32,6 @@ returns g c =
     let a = g.A.Network.meaning c.args.self.now.first in
     let b = g.B.Network.meaning c.args.self.now.second in
     let law = g.met.A.Network.lawful c.args.self.now.first in
-    c.numbered-on-2.ensures
+    c.numbered_on-2.ensures
     ∙ (ap (numbered_on a b) (c.first_in.ensures ∙ ap (first_in b) c.head.ensures)
-    ∙ next_past_first a b (λ (m : Meaning). m.head) (λ k. refl) law.head (λ k n. (law.no_link k n).head) c.args.link (sym c.in-default.ensures) (sym c.next-in-next.ensures ∙ c.if-next-ne0.false))
+    ∙ next_past_first a b (λ (m : Meaning). m.head) (λ k. refl) law.head (λ k n. (law.no_link k n).head) c.args.link (sym c.in_default.ensures) (sym c.next_in-next.ensures ∙ c.if-next-ne0.false))

@@ -6,8 +6,8 @@ use Rattle.joined.specs.Joined.{numbered_on}
 use Rattle.joined.proofs.JoinedLinks.{next_in_second, next_in_first, next_past_first}
 use Rattle.joined.proofs.JoinedNetwork.next_out.Goals as goal
 
-pub numbered-on-requires : goal.numbered-on-requires
-numbered-on-requires g c =
+pub numbered_on-requires : goal.numbered_on-requires
+numbered_on-requires g c =
     let b = g.B.Network.meaning c.args.self.now.second in
     omega (arith, next_high b b.tail c.in-Some.second, c.next_out.ensures)
 
@@ -19,19 +19,19 @@ returns-in-Some g c =
 
 pub returns-then-next-ne0 : goal.returns-then-next-ne0
 returns-then-next-ne0 g c =
-    c.next-out-next.ensures
-    ∙ next_in_first (g.A.Network.meaning c.args.self.now.first) (g.B.Network.meaning c.args.self.now.second) (λ (m : Meaning). m.tail) (λ k. refl) c.args.link (sym c.in-default.ensures) (λ z. c.if-next-ne0.true (c.next-out-next.ensures ∙ z))
+    c.next_out-next.ensures
+    ∙ next_in_first (g.A.Network.meaning c.args.self.now.first) (g.B.Network.meaning c.args.self.now.second) (λ (m : Meaning). m.tail) (λ k. refl) c.args.link (sym c.in_default.ensures) (λ z. c.if-next-ne0.true (c.next_out-next.ensures ∙ z))
 
-pub numbered-on-requires-2 : goal.numbered-on-requires-2
-numbered-on-requires-2 g c =
+pub numbered_on-requires-2 : goal.numbered_on-requires-2
+numbered_on-requires-2 g c =
     let b = g.B.Network.meaning c.args.self.now.second in
-    omega (arith, first_high b b.tail c.tail.result, c.first-out.ensures)
+    omega (arith, first_high b b.tail c.tail.result, c.first_out.ensures)
 
 pub returns : goal.returns
 returns g c =
     let a = g.A.Network.meaning c.args.self.now.first in
     let b = g.B.Network.meaning c.args.self.now.second in
     let law = g.met.A.Network.lawful c.args.self.now.first in
-    c.numbered-on-2.ensures
-    ∙ (ap (numbered_on a b) (c.first-out.ensures ∙ ap (first_out b) c.tail.ensures)
-    ∙ next_past_first a b (λ (m : Meaning). m.tail) (λ k. refl) law.tail (λ k n. (law.no_link k n).tail) c.args.link (sym c.in-default.ensures) (sym c.next-out-next.ensures ∙ c.if-next-ne0.false))
+    c.numbered_on-2.ensures
+    ∙ (ap (numbered_on a b) (c.first_out.ensures ∙ ap (first_out b) c.tail.ensures)
+    ∙ next_past_first a b (λ (m : Meaning). m.tail) (λ k. refl) law.tail (λ k n. (law.no_link k n).tail) c.args.link (sym c.in_default.ensures) (sym c.next_out-next.ensures ∙ c.if-next-ne0.false))

@@ -24,5 +24,5 @@ loop-closure-preserved c =
 pub returns : goal.returns
 returns c =
     let sh = shut c.args.closures.now c.args.link in
-    let free : sh c.loop-closure.t ≡ false = no_window c.args.closures.now c.args.link c.loop-closure.t c.in-default.ensures in
+    let free : sh c.loop-closure.t ≡ false = no_window c.args.closures.now c.args.link c.loop-closure.t c.in_default.ensures in
     sym (cond-false (sh c.loop-closure.t) (open_below sh c.loop-closure.t) (Some c.loop-closure.t) free) ∙ c.loop-closure.invariant

@@ -30,8 +30,8 @@ returns-then-label-eq0 g c =
       empty = c.search.ensures.empty;
     }
 
-pub count-roads-roads-requires : goal.count-roads-roads-requires
-count-roads-roads-requires g c =
+pub count_roads-roads-requires : goal.count_roads-roads-requires
+count_roads-roads-requires g c =
     let read = label_read c.search.new.cells c.args.question.destination c.requires.destination.low in
     let n = c.if-label-eq0.false in
     record {
@@ -54,15 +54,15 @@ returns-then-roads-list g c =
     record {
       told = λ fit.
           told_short _ law _ c.args.question.start c.args.question.destination c.args.question.tick c.search.new.cells c.requires.start c.requires.destination c.requires.tick fit (c.search.ensures.found fit.consistent) _ (read ∙ above _ c.if-label-eq0.false)
-          c.count-roads-roads.result c.count-roads-roads.ensures _ c.if-roads-list.true;
+          c.count_roads-roads.result c.count_roads-roads.ensures _ c.if-roads-list.true;
       list = refl;
       untouched = c.search.ensures.untouched;
       capacity = c.search.ensures.capacity;
       empty = c.search.ensures.empty;
     }
 
-pub write-roads-requires : goal.write-roads-requires
-write-roads-requires g c =
+pub write_roads-requires : goal.write_roads-requires
+write_roads-requires g c =
     let read = label_read c.search.new.cells c.args.question.destination c.requires.destination.low in
     let n = c.if-label-eq0.false in
     record {
@@ -81,13 +81,13 @@ returns g c =
     let read = label_read c.search.new.cells c.args.question.destination c.requires.destination.low in
     record {
       told = λ fit. (
-        omega (arith, c.write-roads.auto.list, c.if-roads-list.false),
+        omega (arith, c.write_roads.auto.list, c.if-roads-list.false),
         told_way _ law _ c.args.question.start c.args.question.destination c.args.question.tick c.search.new.cells c.requires.start c.requires.destination c.requires.tick fit (c.search.ensures.found fit.consistent) _ (read ∙ above _ c.if-label-eq0.false)
-            c.count-roads-roads.result c.count-roads-roads.ensures c.args.order c.write-roads.new.list c.taken-taken.result
+            c.count_roads-roads.result c.count_roads-roads.ensures c.args.order c.write_roads.new.list c.taken-taken.result
             (by_label _ c.search.new.cells c.args.question.destination _ _ _ _ read c.places.ensures c.taken-taken.ensures)
-            c.write-roads.ensures.roads,
+            c.write_roads.ensures.roads,
       );
-      list = c.write-roads.ensures.rest;
+      list = c.write_roads.ensures.rest;
       untouched = c.search.ensures.untouched;
       capacity = c.search.ensures.capacity;
       empty = c.search.ensures.empty;

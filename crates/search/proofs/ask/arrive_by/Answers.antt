@@ -7,7 +7,7 @@ pub returns : goal.returns
 returns g c = record {
   asked =
       asked_by (g.N.Network.meaning c.args.net.now) (g.met.N.Network.lawful c.args.net.now) (g.E.Estimate.ahead c.args.estimate.now) c.args.question.start c.args.question.destination c.args.question.tick _ _ _ _ _ _ _ _
-      _ c.last-tick-last.result c.counted-back.result c.ask-reply.result c.turned-reply.result
-      (ap (λ x. turned (g.N.Network.meaning x.to.now)) c.new-turned.ensures ∙ ap (λ n. turned (g.N.Network.meaning n)) c.new.ensures) c.last-tick-last.ensures c.counted-back.ensures c.turned-reply.ensures c.ask-reply.ensures.asked;
+      _ c.last_tick-last.result c.counted_back.result c.ask-reply.result c.turned_reply.result
+      (ap (λ x. turned (g.N.Network.meaning x.to.now)) c.new-turned.ensures ∙ ap (λ n. turned (g.N.Network.meaning n)) c.new.ensures) c.last_tick-last.ensures c.counted_back.ensures c.turned_reply.ensures c.ask-reply.ensures.asked;
   capacity = c.ask-reply.ensures.capacity;
 }

@@ -7,17 +7,17 @@ returns-in-Some g c = record { asked = refused_asked _ _ _ _ _ _ _ c.in-Some.ref
 
 pub answer-requires : goal.answer-requires
 answer-requires g c =
-    let a = admitted _ _ _ _ _ _ (sym c.refusal.ensures ∙ c.in-default.is) in
+    let a = admitted _ _ _ _ _ _ (sym c.refusal.ensures ∙ c.in_default.is) in
     record { start = a.start; destination = a.destination; tick = a.tick; room = record { cells = a.long; queue = a.wide } }
 
 pub drop-work-requires : goal.drop-work-requires
 drop-work-requires g c =
-    let a = admitted _ _ _ _ _ _ (sym c.refusal.ensures ∙ c.in-default.is) in
+    let a = admitted _ _ _ _ _ _ (sym c.refusal.ensures ∙ c.in_default.is) in
     omega (arith, a.long, c.places.ensures, c.answer.auto.cells)
 
 pub returns : goal.returns
 returns g c =
-    let n = sym c.refusal.ensures ∙ c.in-default.is in
+    let n = sym c.refusal.ensures ∙ c.in_default.is in
     record {
       asked = record {
         refusal = λ r e. absurd (let z : ◌≡◌ {A = ℕ} 0 1 = cc in omega arith);

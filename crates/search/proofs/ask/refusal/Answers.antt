@@ -16,19 +16,19 @@ returns-then-not-among-2 g c =
     (by_count c.args.question.start _ _ _ _ c.places-places.ensures c.among.ensures c.if-not-among.false)
     (by_count c.args.question.destination _ _ _ _ c.places-places.ensures c.among-2.ensures c.if-not-among-2.true))
 
-pub returns-then-question-last-tick : goal.returns-then-question-last-tick
-returns-then-question-last-tick g c =
+pub returns-then-question-last_tick : goal.returns-then-question-last_tick
+returns-then-question-last_tick g c =
     sym (no_tick _ _ _ _ _ _
     (by_count c.args.question.start _ _ _ _ c.places-places.ensures c.among.ensures c.if-not-among.false)
     (by_count c.args.question.destination _ _ _ _ c.places-places.ensures c.among-2.ensures c.if-not-among-2.false)
-    (omega (arith, c.last-tick.ensures, c.if-question-last-tick.true)))
+    (omega (arith, c.last_tick.ensures, c.if-question-last_tick.true)))
 
 pub returns-then-table-places : goal.returns-then-table-places
 returns-then-table-places g c =
     sym (short_table _ _ _ _ _ _
     (by_count c.args.question.start _ _ _ _ c.places-places.ensures c.among.ensures c.if-not-among.false)
     (by_count c.args.question.destination _ _ _ _ c.places-places.ensures c.among-2.ensures c.if-not-among-2.false)
-    (omega (arith, c.last-tick.ensures, c.if-question-last-tick.false))
+    (omega (arith, c.last_tick.ensures, c.if-question-last_tick.false))
     (omega (arith, c.places-places.ensures, c.if-table-places.true)))
 
 pub returns-then-capacity-places : goal.returns-then-capacity-places
@@ -36,7 +36,7 @@ returns-then-capacity-places g c =
     sym (short_queue _ _ _ _ _ _
     (by_count c.args.question.start _ _ _ _ c.places-places.ensures c.among.ensures c.if-not-among.false)
     (by_count c.args.question.destination _ _ _ _ c.places-places.ensures c.among-2.ensures c.if-not-among-2.false)
-    (omega (arith, c.last-tick.ensures, c.if-question-last-tick.false))
+    (omega (arith, c.last_tick.ensures, c.if-question-last_tick.false))
     (omega (arith, c.places-places.ensures, c.if-table-places.false))
     (omega (arith, c.places-places.ensures, c.capacity.ensures, c.if-capacity-places.true)))
 
@@ -45,6 +45,6 @@ returns g c =
     sym (no_refusal _ _ _ _ _ _
     (by_count c.args.question.start _ _ _ _ c.places-places.ensures c.among.ensures c.if-not-among.false)
     (by_count c.args.question.destination _ _ _ _ c.places-places.ensures c.among-2.ensures c.if-not-among-2.false)
-    (omega (arith, c.last-tick.ensures, c.if-question-last-tick.false))
+    (omega (arith, c.last_tick.ensures, c.if-question-last_tick.false))
     (omega (arith, c.places-places.ensures, c.if-table-places.false))
     (omega (arith, c.places-places.ensures, c.capacity.ensures, c.if-capacity-places.false)))

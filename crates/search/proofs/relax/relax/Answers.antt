@@ -11,8 +11,8 @@ lower-requires g c =
       early = arrives_soon laws _ _ _ c.requires.link c.requires.tick c.in-Some.ensures;
     }
 
-pub overflow-add-arrival : goal.overflow-add-arrival
-overflow-add-arrival g c =
+pub overflow_add-arrival : goal.overflow_add-arrival
+overflow_add-arrival g c =
     let laws = g.met.N.Network.lawful c.args.net.now in
     let soon = arrives_soon laws _ _ _ c.requires.link c.requires.tick c.in-Some.ensures in
     omega (arith, soon, c.ahead.ensures, g.met.E.Estimate.small c.args.estimate.now c.head-head.result)

@@ -1,10 +1,10 @@
 use Rattle.std.proofs.Common.{◌∙◌, arith}
 use Rattle.search.proofs.Turns.{sound_early, turn_falls, turn_state, past_settled, empty_settled, found}
 use Rattle.search.proofs.relax.search.Goals as goal
-use Rattle.search.proofs.relax.search.Goals.{in-Some+then-past, in-default}
+use Rattle.search.proofs.relax.search.Goals.{in-Some+then-past, in_default}
 
-pub relax-out-requires : goal.relax-out-requires
-relax-out-requires g c =
+pub relax_out-requires : goal.relax_out-requires
+relax_out-requires g c =
     let laws = g.met.N.Network.lawful c.args.net.now in
     let was = c.loop-key.invariant.1 in
     let out = c.in-Some.ensures.taken in
@@ -22,13 +22,13 @@ relax-out-requires g c =
 
 pub loop-key-smaller : goal.loop-key-smaller
 loop-key-smaller g c =
-    turn_falls c.loop-key.invariant.1 c.in-Some.ensures.taken c.relax-out.ensures.walk
+    turn_falls c.loop-key.invariant.1 c.in-Some.ensures.taken c.relax_out.ensures.walk
 
 pub loop-key-preserved : goal.loop-key-preserved
 loop-key-preserved g c = (
-  c.relax-out.ensures.capacity ∙ (c.in-Some.ensures.capacity ∙ c.loop-key.invariant.0),
-  turn_state c.loop-key.invariant.1 c.in-Some.ensures.taken c.relax-out.ensures.walk,
-  λ v l. c.relax-out.ensures.walk.untouched v l ∙ c.loop-key.invariant.2 v l,
+  c.relax_out.ensures.capacity ∙ (c.in-Some.ensures.capacity ∙ c.loop-key.invariant.0),
+  turn_state c.loop-key.invariant.1 c.in-Some.ensures.taken c.relax_out.ensures.walk,
+  λ v l. c.relax_out.ensures.walk.untouched v l ∙ c.loop-key.invariant.2 v l,
 )
 
 pub returns : goal.returns
@@ -40,7 +40,7 @@ returns g c =
       found = elim c.match-take.branch [
         | in-Some+then-past w ↦ found laws _ was
             (past_settled was w.in-Some.ensures.taken.best _ (w.past.ensures.yes w.if-past.true))
-        | in-default w ↦ found laws _ was (empty_settled was w.in-default.ensures.taken.0 _)
+        | in_default w ↦ found laws _ was (empty_settled was w.in_default.ensures.taken.0 _)
       ];
       untouched = λ v l. c.loop-key.invariant.2 v l ∙ c.begin.ensures.untouched v l;
       capacity = c.clear.ensures.capacity ∙ (c.take.ensures.capacity ∙ (c.loop-key.invariant.0 ∙ c.begin.ensures.capacity));

@@ -13,8 +13,8 @@ seek-link-requires g c = record { place = c.loop-at.invariant.0.place; cells = c
 pub returns-then-link-eq0 : goal.returns-then-link-eq0
 returns-then-link-eq0 g c = walked_stuck _ (g.met.N.Network.lawful c.args.net.now) c.args.cells.now c.args.start c.args.place c.loop-at.count c.loop-at.at c.seek-link.result c.loop-at.invariant.2 c.loop-at.invariant.0.there c.loop-at-test.true c.seek-link.ensures c.if-link-eq0.true
 
-pub overflow-add-count : goal.overflow-add-count
-overflow-add-count g c = omega (arith, c.loop-at.invariant.1, c.loop-at.invariant.0.there, c.requires.labelled.early c.args.place c.requires.labelled.place.high)
+pub overflow_add-count : goal.overflow_add-count
+overflow_add-count g c = omega (arith, c.loop-at.invariant.1, c.loop-at.invariant.0.there, c.requires.labelled.early c.args.place c.requires.labelled.place.high)
 
 pub loop-at-smaller : goal.loop-at-smaller
 loop-at-smaller g c =

@@ -2,8 +2,8 @@ use Rattle.std.proofs.Common.{Some, sym, refl, ap, ◌∙◌, arith}
 use Rattle.tables.proofs.Found.{found, missed}
 use Rattle.tables.proofs.keyed.find.Goals as goal
 
-pub offset-bounds-rows-at : goal.offset-bounds-rows-at
-offset-bounds-rows-at g c = let at = found (g.T.Keyed.fits c.args.key.now) c.args.rows.now c.args.rows.now c.in-Some.at c.in-Some.ensures refl in omega (arith, at.inside)
+pub offset_bounds-rows-at : goal.offset_bounds-rows-at
+offset_bounds-rows-at g c = let at = found (g.T.Keyed.fits c.args.key.now) c.args.rows.now c.args.rows.now c.in-Some.at c.in-Some.ensures refl in omega (arith, at.inside)
 
 pub bounds-rows-at : goal.bounds-rows-at
 bounds-rows-at g c = (found (g.T.Keyed.fits c.args.key.now) c.args.rows.now c.args.rows.now c.in-Some.at c.in-Some.ensures refl).inside

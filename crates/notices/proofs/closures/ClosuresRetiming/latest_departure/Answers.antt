@@ -12,6 +12,6 @@ returns-in-None g c =
 pub returns-in-Some : goal.returns-in-Some
 returns-in-Some g c =
     let below = c.args.below.now in
-    c.open-until.ensures
+    c.open_until.ensures
     ∙ ap (λ cs. last_open cs c.args.link c.in-Some.latest) c.standing.ensures
     ∙ latest_closed (closures_of c.args.self.now) (g.N.Network.meaning below) (g.met.N.Network.lawful below) c.args.link c.args.tick (Some c.in-Some.latest) c.in-Some.ensures

@@ -11,4 +11,4 @@ pub returns-in-Some : goal.returns-in-Some
 returns-in-Some c = clean_hit (fault_by (book_of c.args.self.now) c.args.check) c.count-count.result c.loop-number.number _ c.loop-number-test.true c.loop-number.invariant (sym c.fault.ensures ∙ c.in-Some.is) ∙ ap (first_of (fault_by (book_of c.args.self.now) c.args.check)) c.count-count.ensures
 
 pub loop-number-preserved : goal.loop-number-preserved
-loop-number-preserved c = clean_more (fault_by (book_of c.args.self.now) c.args.check) c.count-count.result c.loop-number.number c.loop-number-test.true c.loop-number.invariant (sym c.fault.ensures ∙ c.in-default.is)
+loop-number-preserved c = clean_more (fault_by (book_of c.args.self.now) c.args.check) c.count-count.result c.loop-number.number c.loop-number-test.true c.loop-number.invariant (sym c.fault.ensures ∙ c.in_default.is)

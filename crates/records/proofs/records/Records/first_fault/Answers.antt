@@ -13,7 +13,7 @@ returns-in-Some c =
 
 pub loop-check-preserved : goal.loop-check-preserved
 loop-check-preserved c =
-    sym (or_next _ _ (sym c.first.ensures ∙ c.in-default.is))
+    sym (or_next _ _ (sym c.first.ensures ∙ c.in_default.is))
     ∙ (sym (at_drop_more (first_by (book_of c.args.self.now)) c.args.checks.now c.loop-check.check-index Links c.loop-check-test.true) ∙ c.loop-check.invariant)
 
 pub returns : goal.returns

@@ -9,4 +9,4 @@ returns-then-not-among c = sym (cond-false _ _ _ (sym c.among.ensures ∙ c.if-n
 
 pub returns : goal.returns
 unfolding place_at
-returns c = let e = c.as-slice-words.ensures.value in rw e (sym (cond-true _ _ _ (sym c.among.ensures ∙ c.if-not-among.false)))
+returns c = let e = c.as_slice-words.ensures.value in rw e (sym (cond-true _ _ _ (sym c.among.ensures ∙ c.if-not-among.false)))

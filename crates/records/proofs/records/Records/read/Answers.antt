@@ -14,28 +14,28 @@ module _ (kind : ℕ) (words slice rest : List ℕ) (same : slice ≡ words) (no
   whole = let l = (read_from_none kind words right).long in ap (λ xs. 5 + length xs) (cut ∙ ap (drop 5) same) ∙ simp length-drop (omega arith)
 
 pub returns-in-Err : goal.returns-in-Err
-returns-in-Err c = (or_first _ _ _ (subst (λ ws. header_fault c.args.kind ws ≡ Some c.in-Err.fault) c.as-slice.ensures.value c.in-Err.ensures), refl)
+returns-in-Err c = (or_first _ _ _ (subst (λ ws. header_fault c.args.kind ws ≡ Some c.in-Err.fault) c.as_slice.ensures.value c.in-Err.ensures), refl)
 
 pub returns-then-rest-size : goal.returns-then-rest-size
 returns-then-rest-size c =
-    let v = c.as-slice.ensures.value in
+    let v = c.as_slice.ensures.value in
     let s = c.in-Ok.ensures in
     let r = right c.args.kind _ _ c.in-Ok.rest.now v s.0 s.2 in
     let w = whole c.args.kind _ _ c.in-Ok.rest.now v s.0 s.2 in
     (or_next _ _ r ∙ not_full _ (λ e. c.if-rest-size.true (w ∙ (e ∙ (ap size (sym (s.1 ∙ ap header_in v)) ∙ sym c.size.ensures)))), refl)
 
-pub invariant-of-result : goal.invariant-of-result
-invariant-of-result c =
-    let v = c.as-slice.ensures.value in
+pub invariant_of-result : goal.invariant_of-result
+invariant_of-result c =
+    let v = c.as_slice.ensures.value in
     let s = c.in-Ok.ensures in
     let e = s.1 ∙ ap header_in v in
     let r = right c.args.kind _ _ c.in-Ok.rest.now v s.0 s.2 in
     let w = whole c.args.kind _ _ c.in-Ok.rest.now v s.0 s.2 in
-    (e, (ap within e ∙ (read_from_none c.args.kind _ r).limits, (sym w ∙ (c.if-rest-size.false ∙ c.size.ensures), tt)))
+    record { read = e; limits = ap within e ∙ (read_from_none c.args.kind _ r).limits; full = sym w ∙ (c.if-rest-size.false ∙ c.size.ensures) }
 
 pub returns : goal.returns
 returns c =
-    let v = c.as-slice.ensures.value in
+    let v = c.as_slice.ensures.value in
     let s = c.in-Ok.ensures in
     let r = right c.args.kind _ _ c.in-Ok.rest.now v s.0 s.2 in
     let w = whole c.args.kind _ _ c.in-Ok.rest.now v s.0 s.2 in

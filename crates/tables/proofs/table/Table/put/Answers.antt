@@ -13,8 +13,8 @@ use Rattle.tables.proofs.table.Table.put.Goals as goal
 in_cells : {X : Type 0} (p : X → Bool) (t : Table X) (rows : List X) (at : ℕ) → Some at ≡ place_of p rows → rows ≡ rows_of_lem t → at < length t.cells
 in_cells p t rows at e s = let w = found p (rows_of_lem t) rows at e s in omega (arith, w.inside, length-take-le t.count t.cells (omega arith))
 
-pub offset-bounds-self-at : goal.offset-bounds-self-at
-offset-bounds-self-at g c = omega (arith, in_cells (g.T.Keyed.fits c.args.key.now) c.args.self.now c.rows.result.now c.in-Some.at c.in-Some.ensures c.rows.ensures)
+pub offset_bounds-self-at : goal.offset_bounds-self-at
+offset_bounds-self-at g c = omega (arith, in_cells (g.T.Keyed.fits c.args.key.now) c.args.self.now c.rows.result.now c.in-Some.at c.in-Some.ensures c.rows.ensures)
 
 pub listed : goal.listed
 listed g c = in_cells (g.T.Keyed.fits c.args.key.now) c.args.self.now c.rows.result.now c.in-Some.at c.in-Some.ensures c.rows.ensures

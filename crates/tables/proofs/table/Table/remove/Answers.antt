@@ -4,8 +4,8 @@ use Rattle.std.proofs.lemmas.List.{length-take-le}
 use Rattle.tables.proofs.Fronts.{gap_more, gap_all}
 use Rattle.tables.proofs.table.Table.remove.Goals as goal
 
-pub overflow-sub-self : goal.overflow-sub-self
-overflow-sub-self g c = omega (arith, length-take-le c.args.self.now.count c.args.self.now.cells (omega arith))
+pub overflow_sub-self : goal.overflow_sub-self
+overflow_sub-self g c = omega (arith, length-take-le c.args.self.now.count c.args.self.now.cells (omega arith))
 
 pub loop-i-preserved : goal.loop-i-preserved
 loop-i-preserved g c = (gap_more c.loop-i.self.cells c.loop-i.i c.index-self-i.result (omega arith) ∙ c.loop-i.invariant.0, c.loop-i.invariant.1)
