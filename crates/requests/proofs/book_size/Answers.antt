@@ -28,14 +28,14 @@ module _ (words : List ℕ) where
     unfolding front_fault
     there h k = or_next _ _ right ∙ passed _ Length of_header None (and_from _ _ (le-leb _ _ h) (le-leb _ _ k))
 
-pub returns-in-err-header : goal.returns-in-err-header
-returns-in-err-header c =
-    let p = err_from_is_err_and c.from-residual.result c.from-residual.ensures.1 in
-    rw (p.1, p.2) (record { cases = header_first _ _ c.in-err-header.ensures; within = tt })
+pub returns-in_err-header : goal.returns-in_err-header
+returns-in_err-header c =
+    let p = err_from_is_err_and c.from_residual.result c.from_residual.ensures.1 in
+    rw (p.1, p.2) (record { cases = header_first _ _ c.in_err-header.ensures; within = tt })
 
 pub returns-then-words-size : goal.returns-then-words-size
 returns-then-words-size c =
-    let h = c.in-ok-header.ensures in
+    let h = c.in_ok-header.ensures in
     let s : c.size-size.result ≡ size (header_in c.args.words.now) = c.size-size.ensures ∙ ap size h.1 in
     record {
       cases = not_there _ h.0 (elim c.then-words-size.either [ inl l ↦ inl (omega (arith, l)) | inr r ↦ inr (omega (arith, r.1)) ]);
@@ -44,6 +44,6 @@ returns-then-words-size c =
 
 pub returns : goal.returns
 returns c =
-    let h = c.in-ok-header.ensures in
+    let h = c.in_ok-header.ensures in
     let s : c.size-size.result ≡ size (header_in c.args.words.now) = c.size-size.ensures ∙ ap size h.1 in
     record { cases = (there _ h.0 (omega arith) (omega arith), s); within = c.if-words-size.false }

@@ -3,8 +3,8 @@ use Rattle.network.specs.Meaning.{IsLink}
 use Rattle.marks.proofs.columns.broken.Goals as goal
 
 -- the ends of a link of the loop are places
-pub overflow-sub-low : goal.overflow-sub-low
-overflow-sub-low g c =
+pub overflow_sub-low : goal.overflow_sub-low
+overflow_sub-low g c =
     let l : IsLink (g.N.Network.meaning c.args.net.now) c.loop-link.link = record { low = omega arith; high = omega arith } in
     omega (arith, ((g.met.N.Network.lawful c.args.net.now).tail c.loop-link.link l).low)
 
@@ -14,8 +14,8 @@ bounds-column-tail g c =
     let t = (g.met.N.Network.lawful c.args.net.now).tail c.loop-link.link l in
     omega (arith, t.low, t.high)
 
-pub overflow-sub-high : goal.overflow-sub-high
-overflow-sub-high g c =
+pub overflow_sub-high : goal.overflow_sub-high
+overflow_sub-high g c =
     let l : IsLink (g.N.Network.meaning c.args.net.now) c.loop-link.link = record { low = omega arith; high = omega arith } in
     omega (arith, ((g.met.N.Network.lawful c.args.net.now).head c.loop-link.link l).low)
 

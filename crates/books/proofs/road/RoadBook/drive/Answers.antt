@@ -12,8 +12,8 @@ loop-init c = walk_start (open_book c.args.self.now) c.args.link _ _ tt (is_road
 pub returns-then-at-eq0 : goal.returns-then-at-eq0
 returns-then-at-eq0 c = walk_end (open_book c.args.self.now) c.args.link _ _ _ _ _ c.loop.invariant c.if-at-eq0.true
 
-pub up-to-requires : goal.up-to-requires
-up-to-requires c = record {
+pub up_to-requires : goal.up_to-requires
+up_to-requires c = record {
   order = walk_order (open_book c.args.self.now) c.args.link _ _ _ _ _ c.loop.invariant _ c.point-point.ensures c.loop-test.true c.if-at-eq0.false;
   past = c.loop.invariant.holds;
   within = c.if-tick-point.true;
@@ -21,7 +21,7 @@ up-to-requires c = record {
 
 pub returns-then-tick-point : goal.returns-then-tick-point
 returns-then-tick-point c =
-    ap (λ (n : ℕ). let s : Option ℕ = Some n in s) c.up-to.ensures
+    ap (λ (n : ℕ). let s : Option ℕ = Some n in s) c.up_to.ensures
     ∙ (sym (cond-true _ _ _ (le-leb c.args.tick c.point-point.result.departure c.if-tick-point.true))
     ∙ walk_here (open_book c.args.self.now) c.args.link _ _ _ _ _ c.loop.invariant _ c.point-point.ensures c.loop-test.true c.if-at-eq0.false)
 

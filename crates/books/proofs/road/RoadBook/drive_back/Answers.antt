@@ -9,8 +9,8 @@ use Rattle.books.proofs.road.RoadBook.drive_back.Goals as goal
 pub loop-init : goal.loop-init
 loop-init c = walk_start (open_book c.args.self.now) c.args.link _ _ tt (is_road (open_book c.args.self.now) (sound c.args.self.now) c.args.link) 0 _ refl (ap (λ (l : Link). l.first_point) c.link-at.ensures)
 
-pub back-from-requires : goal.back-from-requires
-back-from-requires c = record {
+pub back_from-requires : goal.back_from-requires
+back_from-requires c = record {
   order = walk_order (open_book c.args.self.now) c.args.link _ _ _ _ _ c.loop.invariant _ c.point-point.ensures c.loop-test.true c.if-at-eq0.false;
   by = c.loop.invariant.holds;
   late = c.if-tick-point.true;
@@ -18,7 +18,7 @@ back-from-requires c = record {
 
 pub returns-then-tick-point : goal.returns-then-tick-point
 returns-then-tick-point c =
-    c.back-from.ensures
+    c.back_from.ensures
     ∙ (sym (cond-false _ _ _ (lt-leb c.point-point.result.arrival c.args.tick c.if-tick-point.true))
     ∙ walk_here (open_book c.args.self.now) c.args.link _ _ _ _ _ c.loop.invariant _ c.point-point.ensures c.loop-test.true c.if-at-eq0.false)
 
@@ -31,4 +31,4 @@ pub returns-then-at-eq0 : goal.returns-then-at-eq0
 returns-then-at-eq0 c = c.departure_of.ensures ∙ walk_end (open_book c.args.self.now) c.args.link _ _ _ _ _ c.loop.invariant c.if-at-eq0.true
 
 pub returns : goal.returns
-returns c = c.departure-of-2.ensures ∙ walk_spent (open_book c.args.self.now) c.args.link _ _ _ _ _ c.loop.invariant c.loop-test.false
+returns c = c.departure_of-2.ensures ∙ walk_spent (open_book c.args.self.now) c.args.link _ _ _ _ _ c.loop.invariant c.loop-test.false

@@ -34,32 +34,32 @@ records_first : (r : Records) (words : Vec ℕ Global) (o : Option Fault) → r.
 unfolding first_fault
 records_first r words o e h f = or_or (header_fault 1 (vec_items words)) (size_fault (vec_items words)) _ ∙ (or_next _ _ h ∙ sym (f ∙ ap (λ b. first_by b road_checks) (same_book r ∙ ap (λ w. book_in (vec_items w)) e)))
 
-pub returns-in-err-records : goal.returns-in-err-records
-returns-in-err-records c =
-    let p = err_from_is_err_and c.from-residual.result c.from-residual.ensures.1 in
-    let h = c.in-err-records.ensures in
+pub returns-in_err-records : goal.returns-in_err-records
+returns-in_err-records c =
+    let p = err_from_is_err_and c.from_residual.result c.from_residual.ensures.1 in
+    let h = c.in_err-records.ensures in
     let f = header_first _ _ h.0 in
     rw (p.1, p.2) (record { accepted = not_obeyed _ _ f; book = tt; fault = sym f; words = h.1 })
 
 pub returns-in-Some : goal.returns-in-Some
 returns-in-Some c =
-    let h = c.in-ok-records.ensures in
-    let f = records_first c.in-ok-records.records c.args.words _ h.1 h.0 c.first_fault.ensures ∙ c.in-Some.is in
+    let h = c.in_ok-records.ensures in
+    let f = records_first c.in_ok-records.records c.args.words _ h.1 h.0 c.first_fault.ensures ∙ c.in-Some.is in
     record { accepted = not_obeyed _ _ f; book = tt; fault = sym f; words = h.1 }
 
-pub invariant-of-result : goal.invariant-of-result
-invariant-of-result c =
-    let h = c.in-ok-records.ensures in
-    let f = records_first c.in-ok-records.records c.args.words _ h.1 h.0 c.first_fault.ensures ∙ c.in-default.is in
-    (∣ obeys_from_none _ (ap (λ w. first_fault (vec_items w)) h.1 ∙ f) ∣₁, tt)
+pub invariant_of-result : goal.invariant_of-result
+invariant_of-result c =
+    let h = c.in_ok-records.ensures in
+    let f = records_first c.in_ok-records.records c.args.words _ h.1 h.0 c.first_fault.ensures ∙ c.in_default.is in
+    record { obeys = ∣ obeys_from_none _ (ap (λ w. first_fault (vec_items w)) h.1 ∙ f) ∣₁ }
 
 pub returns : goal.returns
 returns c =
-    let h = c.in-ok-records.ensures in
-    let f = records_first c.in-ok-records.records c.args.words _ h.1 h.0 c.first_fault.ensures ∙ c.in-default.is in
+    let h = c.in_ok-records.ensures in
+    let f = records_first c.in_ok-records.records c.args.words _ h.1 h.0 c.first_fault.ensures ∙ c.in_default.is in
     record {
       accepted = obeyed _ f;
-      book = same_book c.in-ok-records.records ∙ ap (λ w. book_in (vec_items w)) h.1;
+      book = same_book c.in_ok-records.records ∙ ap (λ w. book_in (vec_items w)) h.1;
       fault = sym f;
       words = h.1;
     }

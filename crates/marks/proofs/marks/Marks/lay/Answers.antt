@@ -4,13 +4,14 @@ use Rattle.marks.specs.Held.{columns_of}
 use Rattle.marks.proofs.Offering.{laid_small}
 use Rattle.marks.proofs.marks.Marks.lay.Goals as goal
 
-pub invariant-of-self : goal.invariant-of-self
-invariant-of-self c =
+pub invariant_of-self : goal.invariant_of-self
+invariant_of-self c =
     let held = length-take-le c.args.self.now.count c.args.self.now.columns (omega arith) in
-    let small = laid_small c.args.self.now.columns c.args.self.now.count c.args.column.now (omega arith) c.args.self.now.small c.requires.ticks in (
-      (omega arith, simp length-set (omega arith)),
-      ((λ i v. subst (λ (column : List ℕ). get_or (get_or (set c.args.self.now.columns c.args.self.now.count column) i []) v 0 ≤ 604800) (sym c.padded.ensures) (small i v)), tt),
-    )
+    let small = laid_small c.args.self.now.columns c.args.self.now.count c.args.column.now (omega arith) c.args.self.now.small c.requires.ticks in
+    record {
+      held = (omega arith, simp length-set (omega arith));
+      small = λ i v. subst (λ (column : List ℕ). get_or (get_or (set c.args.self.now.columns c.args.self.now.count column) i []) v 0 ≤ 604800) (sym c.padded.ensures) (small i v);
+    }
 
 pub returns : goal.returns
 returns c =

@@ -11,12 +11,12 @@ lay-requires g c =
     record {
       room = omega (arith, length-take-le c.args.self.now.count c.args.self.now.columns (omega arith));
       fits = omega (arith, law.places.high);
-      ticks = above_more c.last-tick.result 604800 c.args.column.now (omega (arith, law.last.high)) (sym c.if-above.ensures);
+      ticks = above_more c.last_tick.result 604800 c.args.column.now (omega (arith, law.last.high)) (sym c.if-above.ensures);
     }
 
 pub returns : goal.returns
 returns g c =
     let net = g.N.Network.meaning c.args.net.now in
     let held = length-take-le c.args.self.now.count c.args.self.now.columns (omega arith) in
-    let low = ap (λ last. some_above last c.args.column.now) (sym c.last-tick.ensures) ∙ sym c.if-above.ensures in
-    record { reply = taken net (columns_of c.args.self.now) c.args.column.now (omega arith) (omega arith) low c.in-default.ensures; columns = c.lay.ensures }
+    let low = ap (λ last. some_above last c.args.column.now) (sym c.last_tick.ensures) ∙ sym c.if-above.ensures in
+    record { reply = taken net (columns_of c.args.self.now) c.args.column.now (omega arith) (omega arith) low c.in_default.ensures; columns = c.lay.ensures }
