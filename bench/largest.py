@@ -1,6 +1,6 @@
 """Writes a road book at every limit to standard output: all 4,096 links share one chain of 16,384 points.
 
-    python3 bench/largest.py > FILE && time target/bin/bookcheck < FILE > /dev/null
+    python3 bench/largest.py > FILE && time crates/bookcheck/out/bookcheck < FILE > /dev/null
 """
 import struct
 import sys

@@ -48,7 +48,7 @@ fn the_roads_go_to_the_front_of_the_list(rt: HostRuntime) -> Result<(), Fail> {
             taken: 3,
         })
     );
-    assert_eq!(rt; list.as_slice(), &[1, 2, 7, 7]);
+    assert_eq!(rt; list.as_slice(), [1, 2, 7, 7].as_slice());
     Ok(())
 }
 
@@ -64,7 +64,7 @@ fn the_lowest_of_two_links_that_arrive_alike(rt: HostRuntime) -> Result<(), Fail
             taken: 2,
         })
     );
-    assert_eq!(rt; list.as_slice(), &[3]);
+    assert_eq!(rt; list.as_slice(), [3].as_slice());
     Ok(())
 }
 
@@ -77,7 +77,7 @@ fn lent_memory_that_is_too_short(rt: HostRuntime) -> Result<(), Fail> {
     assert_eq!(rt; queue, Err(Refusal::ShortQueue));
     let (reply, list) = depart(rt.alloc(), &book, 0, [3, 3, 1])?;
     assert_eq!(rt; reply, Err(Refusal::ShortList { needed: 2 }));
-    assert_eq!(rt; list.as_slice(), &[7]);
+    assert_eq!(rt; list.as_slice(), [7].as_slice());
     Ok(())
 }
 
@@ -131,6 +131,6 @@ fn the_lowest_link_wins_though_found_last(rt: HostRuntime) -> Result<(), Fail> {
             taken: 3,
         })
     );
-    assert_eq!(rt; list.as_slice(), &[3, 1, 7]);
+    assert_eq!(rt; list.as_slice(), [3, 1, 7].as_slice());
     Ok(())
 }
