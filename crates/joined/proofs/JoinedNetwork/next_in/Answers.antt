@@ -1,4 +1,4 @@
-use Rattle.std.proofs.Common.{sym, refl, ap, ◌∙◌, arith}
+use Rattle.std.proofs.Common.{◌≡◌, sym, refl, ap, ◌∙◌, arith}
 use Rattle.network.specs.Meaning.{Meaning}
 use Rattle.network.specs.Links.{first_in}
 use Rattle.network.proofs.Lowest.{first_high, next_high}
@@ -25,13 +25,14 @@ returns-then-next-ne0 g c =
 pub numbered_on-requires-2 : goal.numbered_on-requires-2
 numbered_on-requires-2 g c =
     let b = g.B.Network.meaning c.args.self.now.second in
-    omega (arith, first_high b b.head c.head.result, c.first_in.ensures)
+    omega (arith, first_high b b.head, c.first_in.ensures)
 
 pub returns : goal.returns
 returns g c =
     let a = g.A.Network.meaning c.args.self.now.first in
     let b = g.B.Network.meaning c.args.self.now.second in
     let law = g.met.A.Network.lawful c.args.self.now.first in
+    let into : c.first_in.result ≡ first_in b (a.head c.args.link) = cc in
     c.numbered_on-2.ensures
-    ∙ (ap (numbered_on a b) (c.first_in.ensures ∙ ap (first_in b) c.head.ensures)
+    ∙ (ap (numbered_on a b) into
     ∙ next_past_first a b (λ (m : Meaning). m.head) (λ k. refl) law.head (λ k n. (law.no_link k n).head) c.args.link (sym c.in_default.ensures) (sym c.next_in-next.ensures ∙ c.if-next-ne0.false))

@@ -12,7 +12,7 @@ pub loop-column-init : goal.loop-column-init
 loop-column-init c = omega arith
 
 pub loop-column-preserved : goal.loop-column-preserved
-loop-column-preserved c = let s = step c.columns-column-items.result.now c.loop-column.column-index c.args.to c.args.from c.loop-column-test.true in let m : c.max-most.result ≡ max c.loop-column.most c.saturating_sub.result = search rules in omega (arith, s, c.loop-column.invariant, c.number.ensures, c.number-in-loop-column.ensures)
+loop-column-preserved c = let s = step c.columns-column-items.result.now c.loop-column.column-index c.args.to c.args.from c.loop-column-test.true in grind (arith, s, c.loop-column.invariant, c.number.ensures, c.number-in-loop-column.ensures)
 
 pub returns : goal.returns
 returns c = let e = at_drop_all (λ cs. lead cs c.args.to c.args.from) c.columns-column-items.result.now c.loop-column.column-index c.loop-column-test.false in omega (arith, e, c.loop-column.invariant, ap (λ cs. lead cs c.args.to c.args.from) c.columns-column-items.ensures)
