@@ -1,5 +1,5 @@
 -- Estimates by sound columns are fit, and small.
-use Rattle.std.specs.Prelude.{◌≡◌, ℕ, zero, suc, ◌+◌, ◌-◌, ◌≤◌, List, [], ◌∷◌, take, slice_index, slice_index_or, refl}
+use Rattle.std.specs.Prelude.{◌≡◌, ℕ, zero, suc, ◌+◌, ◌≤◌, List, [], ◌∷◌, take, slice_index, slice_index_or, refl}
 use Rattle.std.proofs.Common.{arith}
 use Rattle.network.specs.Meaning.{Meaning}
 use Rattle.journeys.specs.Turned.{turned}

@@ -1,6 +1,6 @@
 use Rattle.std.proofs.Common.{◌≡◌, ◌+◌, drop, set, sym, refl, ◌∙◌, subst, arith}
 use Rattle.std.proofs.lemmas.List.{drop-set-lt}
-use Rattle.search.specs.RoadLists.{Labelled, spot}
+use Rattle.search.specs.RoadLists.{Labelled}
 use Rattle.search.proofs.RoadWalks.{Written, spot_within, tail_labelled, written_none, written_more, written_stuck, written_all}
 use Rattle.search.proofs.roads.write_roads.Goals as goal
 
