@@ -7,3 +7,5 @@ mod answers;
 mod joins;
 #[cfg(test)]
 mod piles;
+#[cfg(test)]
+mod sailings;

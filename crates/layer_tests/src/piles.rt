@@ -1,18 +1,21 @@
 // Closures, delays, free flow and turning.
-use crate::answers::{arrivals, departures};
-use books::road::RoadBook;
+use crate::answers::{arrivals, departures, links};
+use contents::layout::Kind;
+use joined::Joined;
 use layers::free_flow::FreeFlow;
 use layers::over::Over;
 use layers::turned::Turned;
+use network::meets_deadline;
 use notices::closures::Closures;
 use notices::delays::Delays;
 use notices::notice::{Closure, Delay};
-use quay::words;
+use quay::{ferry_words, words};
 use std::test::Fail;
+use timetables::book::Book;
 
 // The Quay roads with these closures.
-fn shut(rt: &HostRuntime, closures: &[Closure]) -> Result<Over<Closures, RoadBook>, Fail> {
-    let below = RoadBook::open(words().to_vec(rt.alloc())?)?;
+fn shut(rt: &HostRuntime, closures: &[Closure]) -> Result<Over<Closures, Book>, Fail> {
+    let below = Book::open(Kind::Road, words().to_vec(rt.alloc())?)?;
     let mut retiming = Closures::new();
     for closure in closures {
         retiming.up(*closure)?;
@@ -59,7 +62,7 @@ fn a_closure_of_every_tick(rt: HostRuntime) -> Result<(), Fail> {
 
 #[test]
 fn the_turned_rows(rt: HostRuntime) -> Result<(), Fail> {
-    let quay = Turned::new(RoadBook::open(words().to_vec(rt.alloc())?)?);
+    let quay = Turned::new(Book::open(Kind::Road, words().to_vec(rt.alloc())?)?);
     arrivals(
         &rt,
         &quay,
@@ -71,7 +74,7 @@ fn the_turned_rows(rt: HostRuntime) -> Result<(), Fail> {
 
 #[test]
 fn a_delay_of_7_and_free_flow_on_link_1(rt: HostRuntime) -> Result<(), Fail> {
-    let below = RoadBook::open(words().to_vec(rt.alloc())?)?;
+    let below = Book::open(Kind::Road, words().to_vec(rt.alloc())?)?;
     let mut retiming = Delays::new();
     retiming.set(Delay { link: 1, ticks: 7 })?;
     let delayed = Over { retiming, below };
@@ -103,7 +106,7 @@ fn a_delay_of_86400_that_just_fits_and_one_that_does_not(rt: HostRuntime) -> Res
     let words = [
         1, 2, 1, 2, 90_000, 1, 0, 0, 1, 1, 2, 0, 0, 1, 1, 0, 3600, 2, 10, 3601, 0,
     ];
-    let below = RoadBook::open(words.to_vec(rt.alloc())?)?;
+    let below = Book::open(Kind::Road, words.to_vec(rt.alloc())?)?;
     let mut retiming = Delays::new();
     retiming.set(Delay {
         link: 1,
@@ -117,5 +120,54 @@ fn a_delay_of_86400_that_just_fits_and_one_that_does_not(rt: HostRuntime) -> Res
         1,
         &[(90_000, Some(9)), (86_400, None), (86_399, None)],
     );
+    Ok(())
+}
+
+// Closures over delays over the Quay roads joined with the ferry, which is link 5: delayed by 7 and shut from 15 to 45.
+fn pile(rt: &HostRuntime) -> Result<Over<Closures, Over<Delays, Joined<Book, Book>>>, Fail> {
+    let first = Book::open(Kind::Road, words().to_vec(rt.alloc())?)?;
+    let second = Book::open(Kind::Timetable, ferry_words().to_vec(rt.alloc())?)?;
+    let mut delays = Delays::new();
+    delays.set(Delay { link: 5, ticks: 7 })?;
+    let mut closures = Closures::new();
+    closures.up(closure(5, 15, 45))?;
+    let delayed = Over {
+        retiming: delays,
+        below: Joined { first, second },
+    };
+    Ok(Over {
+        retiming: closures,
+        below: delayed,
+    })
+}
+
+#[test]
+fn a_deep_pile(rt: HostRuntime) -> Result<(), Fail> {
+    let pile = pile(&rt)?;
+    arrivals(&rt, &pile, 1, &[(13, Some(22))]);
+    arrivals(&rt, &pile, 5, &[(0, Some(37)), (15, Some(77)), (51, None)]);
+    departures(&rt, &pile, 5, &[(36, None), (37, Some(14)), (77, Some(50))]);
+    assert!(rt; meets_deadline(&pile, 5, 14, 37));
+    assert!(rt; !meets_deadline(&pile, 5, 15, 37));
+    Ok(())
+}
+
+#[test]
+fn the_pile_turned(rt: HostRuntime) -> Result<(), Fail> {
+    let turned = Turned::new(pile(&rt)?);
+    arrivals(&rt, &turned, 5, &[(63, Some(86))]);
+    departures(&rt, &turned, 5, &[(86, Some(63))]);
+    links(&rt, &turned, &[(5, [3, 2, 0, 0])]);
+    Ok(())
+}
+
+#[test]
+fn free_flow_over_the_pile(rt: HostRuntime) -> Result<(), Fail> {
+    let free = Over {
+        retiming: FreeFlow,
+        below: pile(&rt)?,
+    };
+    arrivals(&rt, &free, 5, &[(90, Some(100)), (91, None)]);
+    departures(&rt, &free, 5, &[(9, None), (10, Some(0))]);
     Ok(())
 }

@@ -11,6 +11,7 @@ use Rattle.layers.specs.Retimed.{over}
 use Rattle.notices.specs.Closures.{closed}
 use Rattle.notices.specs.Delays.{delayed}
 use Rattle.records.specs.Faults.{first_fault}
+use Rattle.quay.specs.Ferry.{ferry, ferry_fault}
 
 abbrev header : List ℕ
 header = 1 ∷ 3 ∷ 4 ∷ 9 ∷ 100 ∷ []
@@ -64,3 +65,7 @@ pub record Rows : Type 0 where
   -- with a delay of 7 on link 2, from place 1 at 0 to place 3
   pub delayed : earliest quay_delayed 1 0 3 ≡ Some 26
   pub delayed_roads : road_list quay_delayed 1 0 3 ≡ 4 ∷ []
+  -- the ferry
+  pub ferry_accepted : ferry_fault ≡ None
+  pub sailings : map (ferry.arrival 1) (0 ∷ 21 ∷ 51 ∷ []) ≡ Some 30 ∷ Some 70 ∷ None ∷ []
+  pub latest_sailings : map (latest ferry 1) (29 ∷ 40 ∷ []) ≡ None ∷ Some 20 ∷ []

@@ -1,0 +1,5 @@
+pub mod Unless
+pub mod Firsts
+pub mod Headers
+pub mod Chains
+pub mod Obeying

@@ -1,0 +1,97 @@
+// The records by number. One that isn't there is all zero.
+ghost use Rattle.std.specs.Prelude.{◌≡◌};
+ghost use Rattle.contents.specs.Contents.{end_of, lowest_after};
+ghost use Rattle.contents.specs.Reading.{book_of};
+
+use crate::layout::{End, Link, Place, Point};
+use crate::records::Records;
+use network::among;
+
+impl Records {
+    pub fn place(&self, number: u32) -> Place
+        ensures { result ≡ (book_of self.now).place number }
+    {
+        if !among(number, self.header.places) {
+            return Place {
+                first_out: 0,
+                first_in: 0,
+            };
+        }
+        let words = self.words.as_slice();
+        let at = 5 + 2 * (number as usize - 1);
+        Place {
+            first_out: words[at],
+            first_in: words[at + 1],
+        }
+    }
+
+    pub fn link(&self, number: u32) -> Link
+        ensures { result ≡ (book_of self.now).link number }
+    {
+        if !among(number, self.header.links) {
+            return Link {
+                tail: 0,
+                head: 0,
+                next_out: 0,
+                next_in: 0,
+                floor: 0,
+                first_point: 0,
+            };
+        }
+        let words = self.words.as_slice();
+        let at = 5 + 2 * self.header.places as usize + 6 * (number as usize - 1);
+        Link {
+            tail: words[at],
+            head: words[at + 1],
+            next_out: words[at + 2],
+            next_in: words[at + 3],
+            floor: words[at + 4],
+            first_point: words[at + 5],
+        }
+    }
+
+    pub fn point(&self, number: u32) -> Point
+        ensures { result ≡ (book_of self.now).point number }
+    {
+        if !among(number, self.header.points) {
+            return Point {
+                departure: 0,
+                arrival: 0,
+                next: 0,
+            };
+        }
+        let words = self.words.as_slice();
+        let at = 5
+            + 2 * self.header.places as usize
+            + 6 * self.header.links as usize
+            + 3 * (number as usize - 1);
+        Point {
+            departure: words[at],
+            arrival: words[at + 1],
+            next: words[at + 2],
+        }
+    }
+
+    // The lowest link after link `after` that has this end at the place, or 0.
+    pub(crate) fn lowest(&self, end: End, place: u32, after: u32) -> u32
+        ensures { result ≡ lowest_after (book_of self.now) end place after }
+    {
+        for k in after..self.header.links {
+            if self.link(k + 1).end(end) == place {
+                return k + 1;
+            }
+        }
+        0
+    }
+}
+
+impl Link {
+    pub(crate) fn end(&self, end: End) -> u32
+        ensures { result ≡ end_of end self.now }
+    {
+        match end {
+            End::Tail => self.tail,
+            End::Head => self.head,
+        }
+    }
+}

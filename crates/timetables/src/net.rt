@@ -1,0 +1,107 @@
+// A book is a network.
+ghost use Rattle.std.specs.Prelude.{◌≡◌};
+ghost use Rattle.timetables.specs.Opened.{open_book};
+ghost use Rattle.contents.specs.Contents.{chain_of};
+ghost use Rattle.contents.specs.Reading.{to_come};
+ghost use Rattle.timetables.specs.Networks.{book_network};
+ghost use Rattle.timetables.specs.Sound.{sound, laws};
+
+use crate::book::Book;
+use contents::chain::Chain;
+use contents::layout::Kind;
+use network::Network;
+
+impl Network for Book {
+    ghost meaning = { λ s. book_network (open_book s) };
+
+    ghost lawful = { λ x. laws (open_book x) (sound x) };
+
+    fn places(&self) -> u32 {
+        self.records.header.places
+    }
+
+    fn links(&self) -> u32 {
+        self.records.header.links
+    }
+
+    fn last_tick(&self) -> u32 {
+        self.records.header.last
+    }
+
+    fn tail(&self, link: u32) -> u32 {
+        self.records.link(link).tail
+    }
+
+    fn head(&self, link: u32) -> u32 {
+        self.records.link(link).head
+    }
+
+    fn floor(&self, link: u32) -> u32 {
+        self.records.link(link).floor
+    }
+
+    fn arrival(&self, link: u32, tick: u32) -> Option<u32> {
+        if tick > self.records.header.last {
+            return None;
+        }
+        match self.records.kind {
+            Kind::Road => self.drive(link, tick),
+            Kind::Timetable => self.sail(link, tick),
+        }
+    }
+
+    fn latest_departure(&self, link: u32, tick: u32) -> Option<u32> {
+        if tick > self.records.header.last {
+            return None;
+        }
+        match self.records.kind {
+            Kind::Road => self.drive_back(link, tick),
+            Kind::Timetable => self.sail_back(link, tick),
+        }
+    }
+
+    fn first_out(&self, place: u32) -> u32 {
+        self.records.place(place).first_out
+    }
+
+    fn next_out(&self, link: u32) -> u32 {
+        self.records.link(link).next_out
+    }
+
+    fn first_in(&self, place: u32) -> u32 {
+        self.records.place(place).first_in
+    }
+
+    fn next_in(&self, link: u32) -> u32 {
+        self.records.link(link).next_in
+    }
+}
+
+impl Book {
+    pub fn kind(&self) -> Kind
+        ensures { result ≡ (open_book self.now).kind }
+    {
+        self.records.kind
+    }
+
+    // The words that the book was opened from.
+    pub(crate) fn into_words(self) -> Vec<u32>
+        ensures { result ≡ self.records.words }
+    {
+        self.records.words
+    }
+
+    // How many points the book has, on chains and off them.
+    pub fn points(&self) -> u32
+        ensures { result ≡ (open_book self.now).header.points }
+    {
+        self.records.header.points
+    }
+
+    // The points along a link's chain, in its order; none for a link that isn't there.
+    pub fn chain(&self, link: u32) -> Chain<'_>
+        ensures { to_come result ≡ chain_of (open_book self.now) link }
+    {
+        self.records.chain(link)
+    }
+}

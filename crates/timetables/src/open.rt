@@ -1,0 +1,48 @@
+// Opening a book.
+ghost use Rattle.std.specs.Prelude.{◌≡◌, true, ◌↔◌, is_ok, IfOk, Some, None, MatchResult};
+ghost use Rattle.contents.specs.Contents.{book_in};
+ghost use Rattle.contents.specs.Faults.{header_fault, first_fault};
+ghost use Rattle.contents.specs.Layout.{header_in};
+ghost use Rattle.timetables.specs.Opened.{open_book, fault_named, words_held};
+ghost use Rattle.contents.specs.Rules.{Obeys};
+
+use crate::book::Book;
+use contents::checks::Check;
+use contents::layout::{Header, Kind};
+use contents::records::Records;
+use contents::refused::Refused;
+use refusals::fault::Fault;
+
+impl Book {
+    // What the first five words say, or what is wrong with them. The number of words after them isn't judged.
+    pub fn header(kind: Kind, words: &[u32]) -> Result<Header, Fault>
+        ensures { MatchResult result (λ h. (header_fault kind words.now ≡ None) × (h ≡ header_in words.now)) (λ f. header_fault kind words.now ≡ Some f) }
+    {
+        let (header, _) = Header::split(words, kind)?;
+        Ok(header)
+    }
+
+    // The words as a book of a kind, if they obey every rule of it; else the first fault, and the words again.
+    pub fn open(kind: Kind, words: Vec<u32>) -> Result<Book, Refused>
+        ensures accepted { (is_ok result ≡ true) ↔ Obeys kind words.items }
+        ensures book { IfOk result (λ b. open_book b ≡ book_in kind words.items) }
+        ensures fault { fault_named result ≡ first_fault kind words.items }
+        ensures words { words_held result ≡ words }
+    {
+        let records = Records::read(words, kind)?;
+        let checks = [
+            Check::Links,
+            Check::Points,
+            Check::PlaceChains,
+            Check::LinkChains,
+            Check::Times,
+        ];
+        if let Some(fault) = records.first_fault(&checks) {
+            return Err(Refused {
+                fault,
+                words: records.words,
+            });
+        }
+        Ok(Book { records })
+    }
+}
