@@ -4,8 +4,8 @@
 usage: python3 tools/respell.py            at the top of the repository, once, after port.py
 
 What is renamed is found in specs/ and proofs/: each name with a hyphen that is defined or bound there. Names that a file imports
-from the library, and the names that the checker makes for an answer (goal.NAME), keep their spelling. It stops where two names
-would fall together.
+from the library, and the names that the checker makes for an answer (goal.NAME), keep their spelling. It says where a new name
+stands elsewhere already.
 """
 
 import os

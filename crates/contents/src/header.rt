@@ -40,6 +40,7 @@ impl Header {
     }
 
     // The header of a book of this kind and the words after it, or what is wrong with the header.
+    #[tactic(auto, using(crate::proofs::Headers::other_kind))]
     pub fn split(words: &[u32], kind: Kind) -> Result<(Header, &[u32]), Fault>
         ensures { MatchResult result (λ x. (header_fault kind words.now ≡ None) × (x.0 ≡ header_in words.now) × (x.1.now ≡ drop 5 words.now)) (λ f. header_fault kind words.now ≡ Some f) }
     {

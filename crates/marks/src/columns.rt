@@ -5,7 +5,7 @@ ghost use Rattle.marks.specs.Offers.{some_above, Broken, kept, after_offer, Offe
 
 use crate::marks::Marks;
 use network::Network;
-use refusals::refusal::Refusal;
+use refusals::column::ColumnRefusal;
 
 impl Marks {
     pub fn new() -> Marks
@@ -33,21 +33,21 @@ impl Marks {
 
     // Takes a column for a mark, if it has a number for each place, none of them above the last tick, and along each link rises by at
     // most the floor.
-    pub fn offer<N: Network>(&mut self, net: &N, column: &[u32]) -> Result<(), Refusal>
+    pub fn offer<N: Network>(&mut self, net: &N, column: &[u32]) -> Result<(), ColumnRefusal>
         ensures reply { Offered (N.Network.meaning net.now) (columns_of self.old) column.now result }
         ensures columns { columns_of self.new ≡ after_offer (columns_of self.old) column.now result }
     {
         if self.count == 4 {
-            return Err(Refusal::TooManyMarks);
+            return Err(ColumnRefusal::TooManyMarks);
         }
         if column.len() != net.places() as usize {
-            return Err(Refusal::ColumnLength);
+            return Err(ColumnRefusal::ColumnLength);
         }
         if above(column, net.last_tick()) {
-            return Err(Refusal::AboveLast);
+            return Err(ColumnRefusal::AboveLast);
         }
         if let Some(link) = broken(net, column) {
-            return Err(Refusal::BrokenRule { link });
+            return Err(ColumnRefusal::BrokenRule { link });
         }
         self.lay(column);
         Ok(())

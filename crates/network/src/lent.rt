@@ -20,8 +20,7 @@ impl<N> Handle<N> for &N {
     }
 }
 
-// What a layer is put over to look at a network in place. (A reference can't be a network by itself: a type with a lifetime may
-// not promise laws.)
+// What a layer is put over to look at a network in place.
 #[derive(Drop)]
 pub struct Lent<N, P> {
     to: P,

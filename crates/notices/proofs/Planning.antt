@@ -1,8 +1,8 @@
 -- What a planner may rely on.
 use Rattle.std.proofs.Common.{◌≡◌, ℕ, suc, ◌-◌, Bool, true, false, cond, not, ◌&&◌, ◌||◌, eqb, ltb, leb, List, [], ◌∷◌, ◌++◌, Some, None, Option, sym, refl, ap, ◌∙◌, subst, ap₂, ⊎_elim, arith}
 use Rattle.std.proofs.lemmas.Bool.{both_ways, cases_Bool, and_parts, and_from, eqb-true, eqb-false, eq-eqb, ne_eqb}
-use Rattle.refusals.specs.declared.refusal.Refusal.{Refusal}
-use Rattle.refusals.specs.declared.refusal.Refusal.TheVariants.{AlreadyStanding, NotStanding, NoRoom}
+use Rattle.refusals.specs.declared.notice.NoticeRefusal.{NoticeRefusal}
+use Rattle.refusals.specs.declared.notice.NoticeRefusal.TheVariants.{AlreadyStanding, NotStanding, NoRoom}
 use Rattle.network.specs.Laws.{NoLater}
 use Rattle.notices.specs.declared.notice.Closure.{Closure}
 use Rattle.notices.specs.declared.notice.Delay.{Delay}
@@ -56,7 +56,7 @@ set_each d (x ∷ xs) o = go (set_each d xs o.1) (on_link d.link x) refl
     go rest false h = (none_replaced (on_link d.link) (on_link x.link) d xs (ne_eqb d.link x.link (λ z. eqb-false x.link d.link h (sym z))) o.0, rest)
 
 -- refused or not
-either : {X : Type 0} (alike : X → X → Bool) (r : Option Refusal) (before after : List X) → NoneTwice alike before → (r ≡ None → NoneTwice alike after) → NoneTwice alike (unless r before after)
+either : {X : Type 0} (alike : X → X → Bool) (r : Option NoticeRefusal) (before after : List X) → NoneTwice alike before → (r ≡ None → NoneTwice alike after) → NoneTwice alike (unless r before after)
 either alike None before after o p = p refl
 either alike (Some refusal) before after o p = o
 

@@ -10,7 +10,7 @@ use crate::notice::Closure;
 use crate::windows::{open_from, open_until};
 use layers::over::Retiming;
 use network::Network;
-use refusals::refusal::Refusal;
+use refusals::notice::NoticeRefusal;
 use tables::keyed::{Keyed, place_of};
 use tables::table::Table;
 
@@ -51,18 +51,18 @@ impl Closures {
     }
 
     // Puts a closure up.
-    pub fn up(&mut self, closure: Closure) -> Result<(), Refusal>
+    pub fn up(&mut self, closure: Closure) -> Result<(), NoticeRefusal>
         ensures reply { refusal_in result ≡ up_refusal (closures_of self.old) closure }
         ensures closures { closures_of self.new ≡ up_after (closures_of self.old) closure }
     {
         match place_of(self.standing(), &closure) {
             None => self.table.push(closure),
-            Some(_) => Err(Refusal::AlreadyStanding),
+            Some(_) => Err(NoticeRefusal::AlreadyStanding),
         }
     }
 
     // Takes a closure down.
-    pub fn down(&mut self, closure: Closure) -> Result<(), Refusal>
+    pub fn down(&mut self, closure: Closure) -> Result<(), NoticeRefusal>
         ensures reply { refusal_in result ≡ down_refusal (closures_of self.old) closure }
         ensures closures { closures_of self.new ≡ down_after (closures_of self.old) closure }
     {

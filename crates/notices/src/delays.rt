@@ -9,7 +9,7 @@ ghost use Rattle.notices.specs.Late.{delayed_lawful};
 use crate::notice::Delay;
 use layers::over::{Retiming, later};
 use network::{Network, among};
-use refusals::refusal::Refusal;
+use refusals::notice::NoticeRefusal;
 use tables::keyed::{Keyed, find};
 use tables::table::Table;
 
@@ -46,18 +46,18 @@ impl Delays {
     }
 
     // Puts a delay on its link, in the place of the one that stands there.
-    pub fn set(&mut self, delay: Delay) -> Result<(), Refusal>
+    pub fn set(&mut self, delay: Delay) -> Result<(), NoticeRefusal>
         ensures reply { refusal_in result ≡ set_refusal (delays_of self.old) delay }
         ensures delays { delays_of self.new ≡ set_after (delays_of self.old) delay }
     {
         if !among(delay.ticks, 86_400) {
-            return Err(Refusal::NoDelay);
+            return Err(NoticeRefusal::NoDelay);
         }
         self.table.put(&delay.link, delay)
     }
 
     // Takes the delay off a link.
-    pub fn clear(&mut self, link: u32) -> Result<(), Refusal>
+    pub fn clear(&mut self, link: u32) -> Result<(), NoticeRefusal>
         ensures reply { refusal_in result ≡ clear_refusal (delays_of self.old) link }
         ensures delays { delays_of self.new ≡ clear_after (delays_of self.old) link }
     {

@@ -2,7 +2,7 @@ use crate::closures::Closures;
 use crate::delays::Delays;
 use crate::notice::{Closure, Delay};
 use crate::windows::{open_from, open_until};
-use refusals::refusal::Refusal;
+use refusals::notice::NoticeRefusal;
 use std::test::Fail;
 
 fn closure(link: u32, from: u32, until: u32) -> Closure {
@@ -16,7 +16,7 @@ fn the_32nd_closure_stands_and_one_more_finds_no_room(rt: HostRuntime) -> Result
         closures.up(closure(link, 5, 9))?;
     }
     assert_eq!(rt; closures.standing().len(), 32);
-    assert_eq!(rt; closures.up(closure(32, 5, 9)), Err(Refusal::NoRoom));
+    assert_eq!(rt; closures.up(closure(32, 5, 9)), Err(NoticeRefusal::NoRoom));
     assert_eq!(rt; closures.standing().len(), 32);
     Ok(())
 }
@@ -28,7 +28,7 @@ fn a_closure_that_stands_is_refused_again(rt: HostRuntime) -> Result<(), Fail> {
     closures.up(closure(1, 5, 10))?;
     assert_eq!(rt;
         closures.up(closure(1, 5, 9)),
-        Err(Refusal::AlreadyStanding)
+        Err(NoticeRefusal::AlreadyStanding)
     );
     assert_eq!(rt; closures.standing().len(), 2);
     Ok(())
@@ -39,9 +39,15 @@ fn a_closure_comes_down_once(rt: HostRuntime) -> Result<(), Fail> {
     let mut closures = Closures::new();
     closures.up(closure(1, 5, 9))?;
     closures.up(closure(2, 5, 9))?;
-    assert_eq!(rt; closures.down(closure(1, 5, 8)), Err(Refusal::NotStanding));
+    assert_eq!(rt;
+        closures.down(closure(1, 5, 8)),
+        Err(NoticeRefusal::NotStanding)
+    );
     closures.down(closure(1, 5, 9))?;
-    assert_eq!(rt; closures.down(closure(1, 5, 9)), Err(Refusal::NotStanding));
+    assert_eq!(rt;
+        closures.down(closure(1, 5, 9)),
+        Err(NoticeRefusal::NotStanding)
+    );
     let left = closures.standing();
     assert!(rt; left.len() == 1);
     assert_eq!(rt; left[0], closure(2, 5, 9));
@@ -75,10 +81,10 @@ fn a_delay_has_1_to_86_400_ticks(rt: HostRuntime) -> Result<(), Fail> {
         link: 2,
         ticks: 86_401,
     };
-    assert_eq!(rt; delays.set(long), Err(Refusal::NoDelay));
+    assert_eq!(rt; delays.set(long), Err(NoticeRefusal::NoDelay));
     assert_eq!(rt;
         delays.set(Delay { link: 1, ticks: 0 }),
-        Err(Refusal::NoDelay)
+        Err(NoticeRefusal::NoDelay)
     );
     assert_eq!(rt; delays.standing().len(), 1);
     Ok(())
@@ -95,12 +101,12 @@ fn a_second_delay_replaces_the_first_even_when_32_stand(rt: HostRuntime) -> Resu
         link: 32,
         ticks: 60,
     };
-    assert_eq!(rt; delays.set(more), Err(Refusal::NoRoom));
+    assert_eq!(rt; delays.set(more), Err(NoticeRefusal::NoRoom));
     let standing = delays.standing();
     assert!(rt; standing.len() == 32);
     assert_eq!(rt; standing[7], Delay { link: 7, ticks: 90 });
     delays.clear(7)?;
-    assert_eq!(rt; delays.clear(7), Err(Refusal::NotStanding));
+    assert_eq!(rt; delays.clear(7), Err(NoticeRefusal::NotStanding));
     delays.set(more)?;
     assert_eq!(rt; delays.standing().len(), 32);
     Ok(())

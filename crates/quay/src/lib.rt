@@ -4,6 +4,7 @@
 ghost use Rattle.std.specs.Prelude.{◌≡◌};
 ghost use Rattle.quay.specs.Quay.{quay_words, Rows};
 ghost use Rattle.quay.specs.Ferry.{ferry_words};
+ghost use Rattle.quay.specs.AsBook.{BookRows};
 
 // The book's words; a comment ends each part.
 pub fn words() -> [u32; 62]
@@ -33,4 +34,9 @@ pub fn ferry_words() -> [u32; 26]
 // The rows hold of the definitions.
 pub fn rows()
     ensures { Rows }
+{}
+
+// The rows hold of the same words opened as a book of kind `Road`.
+pub fn book_rows()
+    ensures { BookRows }
 {}

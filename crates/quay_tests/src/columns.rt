@@ -5,7 +5,7 @@ use marks::marks::Marks;
 use quay::words;
 use queues::Queue;
 use queues::scan::ScanQueue;
-use refusals::refusal::Refusal;
+use refusals::column::ColumnRefusal;
 use search::question::{Answer, Question};
 use search::{arrive_by, depart_at};
 use std::test::Fail;
@@ -72,14 +72,20 @@ fn backward_in_time_a_mark_estimates_the_way_to_the_start(rt: HostRuntime) -> Re
 fn a_column_is_refused(rt: HostRuntime) -> Result<(), Fail> {
     let book = RoadBook::open(words().to_vec(rt.alloc())?)?;
     let mut marks = Marks::new();
-    let broken = Err(Refusal::BrokenRule { link: 2 });
+    let broken = Err(ColumnRefusal::BrokenRule { link: 2 });
     assert_eq!(rt; marks.offer(&book, &[0, 5, 11]), broken);
-    assert_eq!(rt; marks.offer(&book, &[0, 5, 101]), Err(Refusal::AboveLast));
-    assert_eq!(rt; marks.offer(&book, &[0, 5]), Err(Refusal::ColumnLength));
+    assert_eq!(rt;
+        marks.offer(&book, &[0, 5, 101]),
+        Err(ColumnRefusal::AboveLast)
+    );
+    assert_eq!(rt;
+        marks.offer(&book, &[0, 5]),
+        Err(ColumnRefusal::ColumnLength)
+    );
     for _ in 0..4 {
         marks.offer(&book, &[0, 0, 0])?;
     }
-    let full = Err(Refusal::TooManyMarks);
+    let full = Err(ColumnRefusal::TooManyMarks);
     assert_eq!(rt; marks.offer(&book, &[0, 5, 10]), full);
     marks.clear();
     assert_eq!(rt; marks.count(), 0);

@@ -6,8 +6,12 @@ use Rattle.refusals.specs.declared.fault.Record.{Record}
 use Rattle.refusals.specs.declared.fault.Record.TheVariants.{Header, Place, Link, Point}
 use Rattle.refusals.specs.declared.joining.Misfit.{Misfit}
 use Rattle.refusals.specs.declared.joining.Misfit.TheVariants.{Unequal, TooManyLinks}
+use Rattle.refusals.specs.declared.notice.NoticeRefusal.{NoticeRefusal}
+use Rattle.refusals.specs.declared.notice.NoticeRefusal.TheVariants.{AlreadyStanding, NotStanding, NoRoom, NoDelay}
+use Rattle.refusals.specs.declared.column.ColumnRefusal.{ColumnRefusal}
+use Rattle.refusals.specs.declared.column.ColumnRefusal.TheVariants.{TooManyMarks, ColumnLength, AboveLast, BrokenRule}
 use Rattle.refusals.specs.declared.refusal.Refusal.{Refusal}
-use Rattle.refusals.specs.declared.refusal.Refusal.TheVariants.{NoPlace, NoTick, AlreadyStanding, NotStanding, NoRoom, NoDelay, ShortTable, ShortQueue, ShortList, TooManyMarks, ColumnLength, AboveLast, BrokenRule}
+use Rattle.refusals.specs.declared.refusal.Refusal.TheVariants.{NoPlace, NoTick, ShortTable, ShortQueue, ShortList}
 
 -- the number of each cause
 abbrev pub cause_number : Cause → ℕ
@@ -37,14 +41,20 @@ misfit_number TooManyLinks = 11
 abbrev pub refusal_number : Refusal → ℕ
 refusal_number NoPlace = 12
 refusal_number NoTick = 14
-refusal_number AlreadyStanding = 15
-refusal_number NotStanding = 16
-refusal_number NoRoom = 17
-refusal_number NoDelay = 18
 refusal_number ShortTable = 19
 refusal_number ShortQueue = 20
 refusal_number (ShortList needed) = 21
-refusal_number TooManyMarks = 22
-refusal_number ColumnLength = 23
-refusal_number AboveLast = 24
-refusal_number (BrokenRule link) = 25
+
+-- the number of each refusal of a notice
+abbrev pub notice_number : NoticeRefusal → ℕ
+notice_number AlreadyStanding = 15
+notice_number NotStanding = 16
+notice_number NoRoom = 17
+notice_number NoDelay = 18
+
+-- the number of each refusal of a column
+abbrev pub column_number : ColumnRefusal → ℕ
+column_number TooManyMarks = 22
+column_number ColumnLength = 23
+column_number AboveLast = 24
+column_number (BrokenRule link) = 25

@@ -13,7 +13,7 @@ use Rattle.journeys.proofs.Arrivals.{computed}
 use Rattle.journeys.proofs.RoadLists.{one_list}
 use Rattle.journeys.proofs.Turning.{turned_laws}
 use Rattle.journeys.proofs.Starts.{start_exact, arrive_by}
-use Rattle.refusals.specs.declared.refusal.Refusal.TheVariants.{NoPlace, NoTick, AlreadyStanding, NotStanding, NoRoom, NoDelay, ShortTable, ShortQueue, ShortList, TooManyMarks, ColumnLength, AboveLast, BrokenRule}
+use Rattle.refusals.specs.declared.refusal.Refusal.TheVariants.{NoPlace, NoTick, ShortTable, ShortQueue, ShortList}
 use Rattle.search.specs.declared.question.Answer.TheVariants.{Found, NoWay as CutOff}
 use Rattle.search.specs.declared.roads.Order.TheVariants.{AsFound, Reversed}
 use Rattle.search.specs.Counting.{Count, TakenPlace}
@@ -36,14 +36,6 @@ module _ (net : Meaning) (law : Laws net) (h : ℕ → ℕ) (s d t : ℕ) (start
   departs (Err NoTick) w = w
   departs (Err ShortTable) w = w
   departs (Err ShortQueue) w = w
-  departs (Err AlreadyStanding) w = w
-  departs (Err NotStanding) w = w
-  departs (Err NoRoom) w = w
-  departs (Err NoDelay) w = w
-  departs (Err TooManyMarks) w = w
-  departs (Err ColumnLength) w = w
-  departs (Err AboveLast) w = w
-  departs (Err (BrokenRule link)) w = w
 
 module _ (net : Meaning) (law : Laws net) (h : ℕ → ℕ) (s d y : ℕ) (start : IsPlace net s) (destination : IsPlace net d) (deadline : y ≤ net.last) (list : List ℕ) where
   -- the latest departure by the earliest arrival of the turned search
@@ -71,14 +63,6 @@ module _ (net : Meaning) (law : Laws net) (h : ℕ → ℕ) (s d y : ℕ) (start
   arrives (Err NoTick) w = w
   arrives (Err ShortTable) w = w
   arrives (Err ShortQueue) w = w
-  arrives (Err AlreadyStanding) w = w
-  arrives (Err NotStanding) w = w
-  arrives (Err NoRoom) w = w
-  arrives (Err NoDelay) w = w
-  arrives (Err TooManyMarks) w = w
-  arrives (Err ColumnLength) w = w
-  arrives (Err AboveLast) w = w
-  arrives (Err (BrokenRule link)) w = w
 
 pub filled_back : (last : ℕ) (reply : Reply) → filled (counted_back last reply) ≡ filled reply
 filled_back last (Ok (Found a roads n)) = refl

@@ -8,7 +8,7 @@ use Rattle.journeys.specs.Roads.{Back, RoadList}
 use Rattle.journeys.specs.Turned.{turned}
 use Rattle.queues.specs.Queue.{Empty}
 use Rattle.refusals.specs.declared.refusal.Refusal.{Refusal}
-use Rattle.refusals.specs.declared.refusal.Refusal.TheVariants.{NoPlace, NoTick, AlreadyStanding, NotStanding, NoRoom, NoDelay, ShortTable, ShortQueue, ShortList, TooManyMarks, ColumnLength, AboveLast, BrokenRule}
+use Rattle.refusals.specs.declared.refusal.Refusal.TheVariants.{NoPlace, NoTick, ShortTable, ShortQueue, ShortList}
 use Rattle.search.specs.declared.question.Question.{Question}
 use Rattle.search.specs.declared.question.Answer.{Answer}
 use Rattle.search.specs.declared.question.Answer.TheVariants.{Found, NoWay as CutOff}
@@ -77,14 +77,6 @@ Searched net h order s d t list (Err NoPlace) = ⊥
 Searched net h order s d t list (Err NoTick) = ⊥
 Searched net h order s d t list (Err ShortTable) = ⊥
 Searched net h order s d t list (Err ShortQueue) = ⊥
-Searched net h order s d t list (Err AlreadyStanding) = ⊥
-Searched net h order s d t list (Err NotStanding) = ⊥
-Searched net h order s d t list (Err NoRoom) = ⊥
-Searched net h order s d t list (Err NoDelay) = ⊥
-Searched net h order s d t list (Err TooManyMarks) = ⊥
-Searched net h order s d t list (Err ColumnLength) = ⊥
-Searched net h order s d t list (Err AboveLast) = ⊥
-Searched net h order s d t list (Err (BrokenRule link)) = ⊥
 
 abbrev pub Departs : Meaning → (ℕ → ℕ) → ℕ → ℕ → ℕ → List ℕ → Reply → Type 0
 Departs net h s d t list (Ok (Found tick roads taken)) = (roads ≤ length list) × Departure net h s d t tick (take roads list) taken
@@ -94,14 +86,6 @@ Departs net h s d t list (Err NoPlace) = ⊥
 Departs net h s d t list (Err NoTick) = ⊥
 Departs net h s d t list (Err ShortTable) = ⊥
 Departs net h s d t list (Err ShortQueue) = ⊥
-Departs net h s d t list (Err AlreadyStanding) = ⊥
-Departs net h s d t list (Err NotStanding) = ⊥
-Departs net h s d t list (Err NoRoom) = ⊥
-Departs net h s d t list (Err NoDelay) = ⊥
-Departs net h s d t list (Err TooManyMarks) = ⊥
-Departs net h s d t list (Err ColumnLength) = ⊥
-Departs net h s d t list (Err AboveLast) = ⊥
-Departs net h s d t list (Err (BrokenRule link)) = ⊥
 
 -- What an arrive_by question is answered: the same search on the network turned, from the destination back to the start.
 
@@ -145,14 +129,6 @@ Arrives net h s d y list (Err NoPlace) = ⊥
 Arrives net h s d y list (Err NoTick) = ⊥
 Arrives net h s d y list (Err ShortTable) = ⊥
 Arrives net h s d y list (Err ShortQueue) = ⊥
-Arrives net h s d y list (Err AlreadyStanding) = ⊥
-Arrives net h s d y list (Err NotStanding) = ⊥
-Arrives net h s d y list (Err NoRoom) = ⊥
-Arrives net h s d y list (Err NoDelay) = ⊥
-Arrives net h s d y list (Err TooManyMarks) = ⊥
-Arrives net h s d y list (Err ColumnLength) = ⊥
-Arrives net h s d y list (Err AboveLast) = ⊥
-Arrives net h s d y list (Err (BrokenRule link)) = ⊥
 
 -- What a question does to what was lent, and when `Told` holds of the reply.
 pub record Asked (refused : Option Refusal) (places : ℕ) (fit : Type 0) (Told : Reply → Type 0) (list list' table table' : List ℕ) (held held' : ℕ → Option ℕ) (reply : Reply) : Type 0 where

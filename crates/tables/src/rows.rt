@@ -6,7 +6,7 @@ ghost use Rattle.tables.specs.Refusals.{refusal_in, push_refusal, push_after, pu
 
 use crate::keyed::{Keyed, place_of};
 use crate::table::Table;
-use refusals::refusal::Refusal;
+use refusals::notice::NoticeRefusal;
 
 impl<T: Copy> Table<T> {
     pub fn new(blank: T) -> Table<T>
@@ -26,12 +26,12 @@ impl<T: Copy> Table<T> {
     }
 
     // Adds a row at the end.
-    pub fn push(&mut self, row: T) -> Result<(), Refusal>
+    pub fn push(&mut self, row: T) -> Result<(), NoticeRefusal>
         ensures reply { refusal_in result ≡ push_refusal (listed self.old) }
         ensures rows { listed self.new ≡ push_after (listed self.old) row }
     {
         if self.count == 32 {
-            return Err(Refusal::NoRoom);
+            return Err(NoticeRefusal::NoRoom);
         }
         self.cells[self.count] = row;
         self.count += 1;
@@ -51,7 +51,7 @@ impl<T: Copy> Table<T> {
     }
 
     // Puts a row in the place of the first with that key, or at the end where there is none.
-    pub fn put<K>(&mut self, key: &K, row: T) -> Result<(), Refusal>
+    pub fn put<K>(&mut self, key: &K, row: T) -> Result<(), NoticeRefusal>
     where
         T: Keyed<K>,
         ensures reply { refusal_in result ≡ put_refusal (T.Keyed.fits key.now) (listed self.old) }
@@ -67,14 +67,14 @@ impl<T: Copy> Table<T> {
     }
 
     // Takes the first row with that key out.
-    pub fn take<K>(&mut self, key: &K) -> Result<(), Refusal>
+    pub fn take<K>(&mut self, key: &K) -> Result<(), NoticeRefusal>
     where
         T: Keyed<K>,
         ensures reply { refusal_in result ≡ take_refusal (T.Keyed.fits key.now) (listed self.old) }
         ensures rows { listed self.new ≡ take_after (T.Keyed.fits key.now) (listed self.old) }
     {
         match place_of(self.rows(), key) {
-            None => Err(Refusal::NotStanding),
+            None => Err(NoticeRefusal::NotStanding),
             Some(at) => {
                 self.remove(at);
                 Ok(())

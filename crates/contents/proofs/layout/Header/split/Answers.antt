@@ -1,16 +1,13 @@
 use Rattle.std.proofs.Common.{◌<◌, ◌≤◌, length, drop, sym, refl, ◌∙◌, arith, length-drop, rules}
 use Rattle.std.proofs.lemmas.List.{take_all}
-use Rattle.contents.proofs.Headers.{under_five, other_kind, outside, right}
+use Rattle.contents.proofs.Headers.{under_five, outside, right}
 use Rattle.contents.proofs.layout.Header.split.Goals as goal
 
 pub returns-in_default : goal.returns-in_default
 returns-in_default c = let h : length c.args.words.now < 5 = search rules in under_five c.args.kind c.args.words.now h
 
-pub returns-then-first-number : goal.returns-then-first-number
-returns-then-first-number c = let h : 5 ≤ length c.args.words.now = search rules in other_kind c.args.kind c.args.words.now h (λ e. omega arith)
-
 pub returns-then-not-within_limits : goal.returns-then-not-within_limits
-returns-then-not-within_limits c = let h : 5 ≤ length c.args.words.now = search rules in outside c.args.kind c.args.words.now h (c.if-first-number.false ∙ c.number.ensures) (sym c.within_limits.ensures ∙ c.if-not-within_limits.true)
+returns-then-not-within_limits c = let h : 5 ≤ length c.args.words.now = search rules in outside c.args.kind c.args.words.now h (omega arith) (sym c.within_limits.ensures ∙ c.if-not-within_limits.true)
 
 pub returns : goal.returns
-returns c = let h : 5 ≤ length c.args.words.now = search rules in (right c.args.kind c.args.words.now h (c.if-first-number.false ∙ c.number.ensures) (sym c.within_limits.ensures ∙ c.if-not-within_limits.false), refl, take_all _ (drop 5 c.args.words.now) (simp length-drop (omega arith)))
+returns c = let h : 5 ≤ length c.args.words.now = search rules in (right c.args.kind c.args.words.now h (omega arith) (sym c.within_limits.ensures ∙ c.if-not-within_limits.false), refl, take_all _ (drop 5 c.args.words.now) (simp length-drop (omega arith)))

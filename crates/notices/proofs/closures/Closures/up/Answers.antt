@@ -1,5 +1,5 @@
 use Rattle.std.proofs.Common.{◌≡◌, [], ◌∷◌, ◌++◌, Some, sym, ap, ◌∙◌}
-use Rattle.refusals.specs.declared.refusal.Refusal.TheVariants.{AlreadyStanding, NoRoom}
+use Rattle.refusals.specs.declared.notice.NoticeRefusal.TheVariants.{AlreadyStanding, NoRoom}
 use Rattle.notices.specs.Calls.{up_refusal}
 use Rattle.notices.specs.Closures.{same}
 use Rattle.tables.specs.Refusals.{first_refusal, unless, full, push_refusal}

@@ -1,5 +1,5 @@
 use Rattle.std.proofs.Common.{◌≡◌, true, not, ◌&&◌, [], ◌∷◌, sym, ap, ◌∙◌}
-use Rattle.refusals.specs.declared.refusal.Refusal.TheVariants.{NoDelay, NoRoom}
+use Rattle.refusals.specs.declared.notice.NoticeRefusal.TheVariants.{NoDelay, NoRoom}
 use Rattle.network.specs.Meaning.{among}
 use Rattle.tables.specs.Finds.{any_of, replaced}
 use Rattle.tables.specs.Refusals.{first_refusal, unless, full, put_refusal}

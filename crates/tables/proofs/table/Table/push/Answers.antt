@@ -1,7 +1,7 @@
 use Rattle.std.proofs.Common.{◌≡◌, false, [], ◌∷◌, ◌++◌, None, sym, ap, ◌∙◌, arith}
 use Rattle.std.proofs.lemmas.List.{length-take-le, take_more_set}
 use Rattle.std.proofs.lemmas.Bool.{lt-leb}
-use Rattle.refusals.specs.declared.refusal.Refusal.TheVariants.{NoRoom}
+use Rattle.refusals.specs.declared.notice.NoticeRefusal.TheVariants.{NoRoom}
 use Rattle.tables.specs.Refusals.{first_refusal, full, unless, push_refusal}
 use Rattle.tables.specs.Rows.{listed}
 use Rattle.tables.proofs.table.Table.push.Goals as goal

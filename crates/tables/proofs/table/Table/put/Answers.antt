@@ -1,6 +1,6 @@
 use Rattle.std.proofs.Common.{◌≡◌, ℕ, ◌<◌, Bool, not, ◌&&◌, List, [], ◌∷◌, length, Some, None, sym, ap, ◌∙◌, arith}
 use Rattle.std.proofs.lemmas.List.{length-take-le}
-use Rattle.refusals.specs.declared.refusal.Refusal.TheVariants.{NoRoom}
+use Rattle.refusals.specs.declared.notice.NoticeRefusal.TheVariants.{NoRoom}
 use Rattle.tables.specs.declared.table.Table.{Table}
 use Rattle.tables.specs.Finds.{place_of, replaced}
 use Rattle.tables.specs.Refusals.{first_refusal, unless, full, push_refusal, put_refusal}

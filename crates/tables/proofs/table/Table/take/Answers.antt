@@ -1,5 +1,5 @@
 use Rattle.std.proofs.Common.{◌≡◌, ◌<◌, not, [], ◌∷◌, length, Some, None, sym, ap, ◌∙◌, rules}
-use Rattle.refusals.specs.declared.refusal.Refusal.TheVariants.{NotStanding}
+use Rattle.refusals.specs.declared.notice.NoticeRefusal.TheVariants.{NotStanding}
 use Rattle.tables.specs.Finds.{without}
 use Rattle.tables.specs.Refusals.{first_refusal, unless, take_refusal}
 use Rattle.tables.specs.Rows.{listed}
