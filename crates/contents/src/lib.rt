@@ -1,4 +1,5 @@
-// A book's records: how they lie in its words, the rules that they obey, and the first fault where one breaks a rule.
+// The records of a book of either kind, roads or sailings: how they lie in its words, the rules that they obey for its kind, and the
+// first fault where one breaks a rule.
 #![tactic(auto)]
 
 pub mod chain;
