@@ -8,9 +8,7 @@ ghost use Rattle.network.specs.Latest.{latest, MeetsDeadline};
 ghost use Rattle.network.specs.Same.{SameMeaningIsOne};
 ghost use Rattle.network.specs.Links.{first_out, next_out, first_in, next_in, LowestIsLowest};
 
-mod lent;
-
-pub use lent::{Handle, Lent};
+mod borrowed;
 
 // A network. Each answer is fixed by the meaning for every number that a caller can pass: for a place, link or tick that isn't
 // there, an arrival or a latest departure is none and every other answer is 0.
@@ -60,7 +58,7 @@ pub trait Network {
 pub fn among(k: u32, n: u32) -> bool
     ensures { result ≡ among k n }
 {
-    k >= 1 && k <= n
+    (1..=n).contains(&k)
 }
 
 // Whether one who enters the link at the departure is through it by the deadline, for a deadline up to the last tick: exactly when the
@@ -68,10 +66,9 @@ pub fn among(k: u32, n: u32) -> bool
 pub fn meets_deadline<N: Network>(network: &N, link: u32, departure: u32, deadline: u32) -> bool
     ensures { MeetsDeadline (N.Network.meaning network.now) link departure deadline result }
 {
-    match network.latest_departure(link, deadline) {
-        None => false,
-        Some(latest) => departure <= latest,
-    }
+    network
+        .latest_departure(link, deadline)
+        .is_some_and(|latest| departure <= latest)
 }
 
 // Each link out of a place, or into it, is found once: first and next are the lowest links that are left.
