@@ -24,10 +24,9 @@ impl Retiming for FreeFlow {
 
     fn latest_departure<N: Network>(&self, below: &N, link: u32, tick: u32) -> Option<u32> {
         let floor = below.floor(link);
-        let last = below.last_tick();
-        if floor == 0 || tick < floor || tick > last {
+        if floor == 0 || tick > below.last_tick() {
             return None;
         }
-        Some(tick - floor)
+        tick.checked_sub(floor)
     }
 }

@@ -89,8 +89,5 @@ impl<R: Retiming, N: Network> Network for Over<R, N> {
 pub fn later(last: u32, by: u32, tick: u32) -> Option<u32>
     ensures { result ≡ later last by tick }
 {
-    if tick > last || by > last - tick {
-        return None;
-    }
-    Some(tick + by)
+    tick.checked_add(by).filter(|later| *later <= last)
 }

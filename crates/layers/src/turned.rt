@@ -1,7 +1,6 @@
 // The network below, read backward in time.
 ghost use Rattle.std.specs.Prelude.{◌≡◌};
-ghost use Rattle.journeys.specs.Turned.{less, turned};
-ghost use Rattle.network.specs.Laws.{Between};
+ghost use Rattle.journeys.specs.Turned.{turned};
 ghost use Rattle.journeys.proofs.Turning.{turned_laws};
 
 use network::Network;
@@ -17,17 +16,6 @@ impl<N> Turned<N> {
         ensures { result.below ≡ below }
     {
         Turned { below }
-    }
-}
-
-// The tick counted back from the last, or none.
-fn counted_back(last: u32, tick: Option<u32>) -> Option<u32>
-    requires { Between 0 last tick }
-    ensures { result ≡ less last tick }
-{
-    match tick {
-        None => None,
-        Some(t) => Some(last - t),
     }
 }
 
@@ -62,18 +50,14 @@ impl<N: Network> Network for Turned<N> {
 
     fn arrival(&self, link: u32, tick: u32) -> Option<u32> {
         let last = self.below.last_tick();
-        if tick > last {
-            return None;
-        }
-        counted_back(last, self.below.latest_departure(link, last - tick))
+        let departure = self.below.latest_departure(link, last.checked_sub(tick)?)?;
+        Some(last - departure)
     }
 
     fn latest_departure(&self, link: u32, tick: u32) -> Option<u32> {
         let last = self.below.last_tick();
-        if tick > last {
-            return None;
-        }
-        counted_back(last, self.below.arrival(link, last - tick))
+        let arrival = self.below.arrival(link, last.checked_sub(tick)?)?;
+        Some(last - arrival)
     }
 
     fn first_out(&self, place: u32) -> u32 {
