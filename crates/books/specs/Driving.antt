@@ -1,15 +1,13 @@
 -- What a road's arrivals and latest departures obey.
-use Rattle.std.specs.Prelude.{◌≡◌, ℕ, suc, ◌+◌, ◌<◌, ◌≤◌, cond, ◌↔◌, List, [], ◌∷◌, Some, None, Option, nat_le}
-use Rattle.std.proofs.Common.{sym, subst, arith, le_trans}
-use Rattle.std.proofs.lemmas.Bool.{le-leb, leb-true, leb-false, cond_both}
+use Rattle.std.specs.Prelude.{ℕ, ◌+◌, ◌<◌, ◌≤◌, ◌↔◌, List, [], ◌∷◌, Some, None, Option, nat_le}
+use Rattle.std.proofs.Common.{arith, le_trans}
+use Rattle.std.proofs.lemmas.Bool.{leb-true, leb-false, cond_both}
 use Rattle.network.specs.Laws.{NoLater, NotBefore, Between}
-use Rattle.network.specs.Latest.{latest}
 use Rattle.network.proofs.Orders.{no_later_trans, not_before_less}
-use Rattle.network.proofs.Greatest.{Greatest, latest_greatest, one_greatest}
 use Rattle.records.specs.declared.layout.Point.{Point}
-use Rattle.records.specs.Book.{Book, points_of}
-use Rattle.records.specs.Rules.{Timely, AllTimely, Follows, Rising, Road}
-use Rattle.books.specs.Roads.{up_to, along, road, road_network, DepartsBefore, ArrivesBy, back_from, departure_of, back_along, road_back}
+use Rattle.records.specs.Rules.{Timely, AllTimely, Follows, Rising}
+use Rattle.books.specs.Roads.{up_to, along, road, DepartsBefore, ArrivesBy, back_from, departure_of, back_along, road_back}
+use Rattle.books.specs.Timed.{Timed}
 use Rattle.books.specs.Lines.{between_low, between_high, between_more, back_high, segment}
 
 -- the point before, if there is one, is timely
@@ -37,7 +35,7 @@ along_between floor last before (q ∷ qs) t tb ts r =
     (λ e. along_between floor last (Some q) qs t ts.0 ts.1 r.1)
 
 -- an arrival is at least the departure plus the floor, and at most the last tick
-pub road_between : (floor last : ℕ) (ps : List Point) → AllTimely floor last ps → Road ps → (t : ℕ) → Between (t + floor) last (road ps t)
+road_between : (floor last : ℕ) (ps : List Point) → AllTimely floor last ps → Rising None ps → (t : ℕ) → Between (t + floor) last (road ps t)
 road_between floor last ps ts r t = along_between floor last None ps t tt ts r
 
 -- after p nothing arrives earlier than p
@@ -62,7 +60,7 @@ along_fifo before (q ∷ qs) s t r h =
     (λ et. along_fifo (Some q) qs s t r.1 h))
 
 -- a later departure never arrives earlier
-pub road_fifo : (ps : List Point) → Road ps → (s t : ℕ) → s ≤ t → NoLater (road ps s) (road ps t)
+road_fifo : (ps : List Point) → Rising None ps → (s t : ℕ) → s ≤ t → NoLater (road ps s) (road ps t)
 road_fifo ps r s t h = along_fifo None ps s t r h
 
 -- the latest departure by the points after p isn't before p's departure
@@ -106,30 +104,8 @@ along_exact before (q ∷ qs) a d r l h =
     )))
 
 -- departing at d arrives by a exactly when d is no later than the latest departure that is computed
-pub road_exact : (ps : List Point) (a d : ℕ) → Road ps → NoLater (road ps d) (Some a) ↔ NotBefore d (road_back ps a)
+road_exact : (ps : List Point) (a d : ℕ) → Rising None ps → NoLater (road ps d) (Some a) ↔ NotBefore d (road_back ps a)
 road_exact ps a d r = along_exact None ps a d r tt tt
 
--- what arrives by a tick departs at a tick
-by_within : (t floor last a : ℕ) (o : Option ℕ) → a ≤ last → Between (t + floor) last o → NoLater o (Some a) → t ≤ last
-by_within t floor last a None h b n = absurd n
-by_within t floor last a (Some y) h b n = omega arith
-
--- the departure that is computed is the latest
-pub back_is_latest : (b : Book) (k a : ℕ) → AllTimely (b.link k).floor b.header.last (points_of b k) → Road (points_of b k) → a ≤ b.header.last → road_back (points_of b k) a ≡ latest (road_network b) k a
-back_is_latest b k a ts r h = one_greatest ((road_network b).arrival k) a (suc last) _ _ computed (latest_greatest (road_network b) k a h)
-  where
-    last : ℕ
-    last = b.header.last
-
-    ps : List Point
-    ps = points_of b k
-
-    computed : Greatest ((road_network b).arrival k) a (suc last) (road_back ps a)
-    computed =
-        record {
-          fits = λ x e.
-              let by = (road_exact ps a x r).1 (subst (NotBefore x) (sym e) (omega arith)) in
-              let l = by_within x (b.link k).floor last a (road ps x) h (road_between (b.link k).floor last ps ts r x) by in
-              (omega arith, subst (λ t. NoLater (cond t (road ps x) None) (Some a)) (sym (le-leb x last l)) by);
-          most = λ d l n. (road_exact ps a d r).0 (subst (λ t. NoLater (cond t (road ps d) None) (Some a)) (le-leb d last (omega arith)) n);
-        }
+pub road_timed : (floor last : ℕ) (ps : List Point) → AllTimely floor last ps → Rising None ps → Timed floor last (road ps) (road_back ps)
+road_timed floor last ps ts r = record { between = road_between floor last ps ts r; fifo = road_fifo ps r; exact = λ a d. road_exact ps a d r }

@@ -1,5 +1,11 @@
+pub mod Ticks
 pub mod Roads
+pub mod Sailings
+pub mod Networks
 pub mod Opened
+pub mod Pairs
 pub mod Sound
+pub mod Timed
 pub mod Driving
 pub mod Lines
+pub mod Sailing

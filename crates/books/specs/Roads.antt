@@ -1,8 +1,6 @@
--- When a road arrives, and what a road book means.
+-- When a road arrives.
 use Rattle.std.specs.Prelude.{ℕ, ◌+◌, ◌-◌, ◌*◌, ◌/◌, ◌<◌, ◌≤◌, cond, List, [], ◌∷◌, Some, None, Option, nat_le}
-use Rattle.network.specs.Meaning.{Meaning}
 use Rattle.records.specs.declared.layout.Point.{Point}
-use Rattle.records.specs.Book.{Book, points_of}
 
 -- the arrival for t between neighbouring points p and q, the quotient rounded down
 abbrev pub between : Point → Point → ℕ → ℕ
@@ -21,19 +19,6 @@ along before (q ∷ qs) t = cond (nat_le t q.departure) (Some (up_to before q t)
 -- the arrival for t on a road with these points
 abbrev pub road : List Point → ℕ → Option ℕ
 road ps t = along None ps t
-
--- What a road book means.
-abbrev pub road_network : Book → Meaning
-road_network b =
-    record {
-      places = b.header.places;
-      links = b.header.links;
-      last = b.header.last;
-      tail = λ k. (b.link k).tail;
-      head = λ k. (b.link k).head;
-      floor = λ k. (b.link k).floor;
-      arrival = λ k t. cond (nat_le t b.header.last) (road (points_of b k) t) None;
-    }
 
 -- the point before, if there is one, departs before tick t
 abbrev pub DepartsBefore : Option Point → ℕ → Type 0
@@ -67,13 +52,3 @@ back_along before (q ∷ qs) a = cond (nat_le q.arrival a) (back_along (Some q) 
 
 abbrev pub road_back : List Point → ℕ → Option ℕ
 road_back ps a = back_along None ps a
-
--- The first and the last of a chain's points.
-
-abbrev pub last_of : Point → List Point → Point
-last_of p [] = p
-last_of p (q ∷ qs) = last_of q qs
-
-abbrev pub ends_of : List Point → Option (Point × Point)
-ends_of [] = None
-ends_of (p ∷ ps) = Some (p, last_of p ps)

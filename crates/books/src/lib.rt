@@ -1,7 +1,9 @@
-// Road books: words that obey every rule of one, opened, and then a network.
+// Road books and timetables: words that obey every rule of their kind, opened, and then a network.
 #![tactic(auto)]
 
-mod drives;
+pub mod book;
 pub mod net;
 mod open;
-pub mod road;
+pub mod pair;
+mod roads;
+pub mod sailings;

@@ -1,14 +1,18 @@
-// A road book is a network.
+// A book is a network.
 ghost use Rattle.std.specs.Prelude.{◌≡◌};
 ghost use Rattle.books.specs.Opened.{open_book};
-ghost use Rattle.books.specs.Roads.{road_network};
+ghost use Rattle.records.specs.Contents.{chain_of};
+ghost use Rattle.records.specs.Reading.{to_come};
+ghost use Rattle.books.specs.Networks.{book_network};
 ghost use Rattle.books.specs.Sound.{sound, laws};
 
-use crate::road::RoadBook;
+use crate::book::Book;
+use records::chain::Chain;
+use records::kind::Kind;
 use network::Network;
 
-impl Network for RoadBook {
-    ghost meaning = { λ s. road_network (open_book s) };
+impl Network for Book {
+    ghost meaning = { λ s. book_network (open_book s) };
 
     ghost lawful = { λ x. laws (open_book x) (sound x) };
 
@@ -40,14 +44,20 @@ impl Network for RoadBook {
         if tick > self.records.header.last {
             return None;
         }
-        self.drive(link, tick)
+        match self.records.kind {
+            Kind::Road => self.drive(link, tick),
+            Kind::Timetable => self.sail(link, tick),
+        }
     }
 
     fn latest_departure(&self, link: u32, tick: u32) -> Option<u32> {
         if tick > self.records.header.last {
             return None;
         }
-        self.drive_back(link, tick)
+        match self.records.kind {
+            Kind::Road => self.drive_back(link, tick),
+            Kind::Timetable => self.sail_back(link, tick),
+        }
     }
 
     fn first_out(&self, place: u32) -> u32 {
@@ -67,11 +77,31 @@ impl Network for RoadBook {
     }
 }
 
-impl RoadBook {
+impl Book {
+    pub fn kind(&self) -> Kind
+        ensures { result ≡ (open_book self.now).kind }
+    {
+        self.records.kind
+    }
+
+    // The words that the book was opened from.
+    pub(crate) fn into_words(self) -> Vec<u32>
+        ensures { result ≡ self.records.words }
+    {
+        self.records.words
+    }
+
     // How many points the book has, on chains and off them.
     pub fn points(&self) -> u32
         ensures { result ≡ (open_book self.now).header.points }
     {
         self.records.header.points
+    }
+
+    // The points along a link's chain, in its order; none for a link that isn't there.
+    pub fn chain(&self, link: u32) -> Chain<'_>
+        ensures { to_come result ≡ chain_of (open_book self.now) link }
+    {
+        self.records.chain(link)
     }
 }

@@ -1,6 +1,6 @@
 // Two networks joined, and two books opened as one.
 use crate::answers::{arrivals, departures, links};
-use contents::layout::Kind;
+use records::kind::Kind;
 use joined::Joined;
 use network::Network;
 use quay::{ferry_words, words};
@@ -8,8 +8,8 @@ use refusals::fault::{Cause, Fault, Record};
 use refusals::joining::Misfit;
 use std::alloc::{AllocError, Global};
 use std::test::Fail;
-use timetables::book::Book;
-use timetables::pair::{PairFault, open_both};
+use books::book::Book;
+use books::pair::{PairFault, open_both};
 
 #[test]
 fn the_ferry_is_numbered_on_after_the_roads(rt: HostRuntime) -> Result<(), Fail> {

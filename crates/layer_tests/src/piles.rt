@@ -1,6 +1,6 @@
 // Closures, delays, free flow and turning.
 use crate::answers::{arrivals, departures, links};
-use contents::layout::Kind;
+use records::kind::Kind;
 use joined::Joined;
 use layers::free_flow::FreeFlow;
 use layers::over::Over;
@@ -11,7 +11,7 @@ use notices::delays::Delays;
 use notices::notice::{Closure, Delay};
 use quay::{ferry_words, words};
 use std::test::Fail;
-use timetables::book::Book;
+use books::book::Book;
 
 // The Quay roads with these closures.
 fn shut(rt: &HostRuntime, closures: &[Closure]) -> Result<Over<Closures, Book>, Fail> {

@@ -1,11 +1,11 @@
 // Timetables: sailings in any order, and the checks that they share with road books.
 use crate::answers::{arrivals, departures};
-use contents::layout::Kind;
+use records::kind::Kind;
 use quay::{ferry_words, words};
 use refusals::fault::{Cause, Fault, Record};
 use std::alloc::{AllocError, Global};
 use std::test::Fail;
-use timetables::book::Book;
+use books::book::Book;
 
 // The ferry's words with one changed, by its index: places are from 5, links from 11 and points from 17 on.
 fn changed(heap: Global, at: usize, word: u32) -> Result<Vec<u32>, AllocError> {

@@ -3,14 +3,14 @@
 #![tactic(auto)]
 
 use anyhow::anyhow;
-use contents::layout::Kind;
+use records::kind::Kind;
 use network::Network;
 use records::bytes;
 use refusals::fault::{Cause, Fault};
 use std::io::Read;
 use std::{env, fs, io};
-use timetables::book::Book;
-use timetables::pair::{PairFault, open_both};
+use books::book::Book;
+use books::pair::{PairFault, open_both};
 
 fn name(kind: Kind) -> &'static str {
     match kind {

@@ -1,8 +1,8 @@
 -- The rows of the ferry.
 use Rattle.std.proofs.Common.{◌≡◌, [], ◌∷◌, map, Some, None, refl}
 use Rattle.network.specs.Latest.{latest}
-use Rattle.contents.specs.Layout.{place_at, link_at, point_at}
-use Rattle.contents.specs.Faults.{header_fault, size_fault, fault_by, first_fault}
+use Rattle.records.specs.Layout.{place_at, link_at, point_at}
+use Rattle.records.specs.Faults.{header_fault, size_fault, fault_by, first_fault}
 use Rattle.quay.specs.Ferry.{ferry, ferry_fault}
 
 pub accepted : ferry_fault ≡ None

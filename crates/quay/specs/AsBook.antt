@@ -8,10 +8,10 @@ use Rattle.journeys.specs.Turned.{turned, latest_start}
 use Rattle.layers.specs.Retimed.{over}
 use Rattle.notices.specs.Closures.{closed}
 use Rattle.notices.specs.Delays.{delayed}
-use Rattle.contents.specs.declared.layout.Kind.TheVariants.{Road}
-use Rattle.contents.specs.Contents.{book_in}
-use Rattle.contents.specs.Faults.{first_fault}
-use Rattle.timetables.specs.Networks.{book_network}
+use Rattle.records.specs.declared.kind.Kind.TheVariants.{Road}
+use Rattle.records.specs.Contents.{book_in}
+use Rattle.records.specs.Faults.{first_fault}
+use Rattle.books.specs.Networks.{book_network}
 use Rattle.quay.specs.Quay.{quay_words}
 
 abbrev pub book : Meaning

@@ -2,10 +2,10 @@
 use Rattle.std.specs.Prelude.{ℕ, List, [], ◌∷◌, ◌++◌, Option}
 use Rattle.network.specs.Meaning.{Meaning}
 use Rattle.refusals.specs.declared.fault.Fault.{Fault}
-use Rattle.contents.specs.declared.layout.Kind.TheVariants.{Timetable}
-use Rattle.contents.specs.Contents.{book_in}
-use Rattle.contents.specs.Faults.{first_fault}
-use Rattle.timetables.specs.Networks.{book_network}
+use Rattle.records.specs.declared.kind.Kind.TheVariants.{Timetable}
+use Rattle.records.specs.Contents.{book_in}
+use Rattle.records.specs.Faults.{first_fault}
+use Rattle.books.specs.Networks.{book_network}
 
 -- A ferry from place 2 to place 3, which never takes less than 10 ticks, with three sailings.
 abbrev ferry_header : List ℕ

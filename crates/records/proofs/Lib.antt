@@ -2,5 +2,4 @@ pub mod Unless
 pub mod Firsts
 pub mod Headers
 pub mod Chains
-pub mod Walks
 pub mod Obeying

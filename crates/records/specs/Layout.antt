@@ -1,10 +1,17 @@
 -- How a book lies in its words: a header of five, then two words a place, six a link and three a point.
 use Rattle.std.specs.Prelude.{ℕ, ◌+◌, ◌-◌, ◌*◌, ◌≤◌, Bool, cond, ◌&&◌, List, nat_le, slice_index}
 use Rattle.network.specs.Meaning.{Among, among}
+use Rattle.records.specs.declared.kind.Kind.{Kind}
+use Rattle.records.specs.declared.kind.Kind.TheVariants.{Road, Timetable}
 use Rattle.records.specs.declared.layout.Header.{Header}
 use Rattle.records.specs.declared.layout.Place.{Place}
 use Rattle.records.specs.declared.layout.Link.{Link}
 use Rattle.records.specs.declared.layout.Point.{Point}
+
+-- the first word of a book of each kind
+abbrev pub kind_number : Kind → ℕ
+kind_number Road = 1
+kind_number Timetable = 2
 
 -- The header's five words: the kind, the numbers of places, links and points, and the last tick.
 abbrev pub kind_in : List ℕ → ℕ

@@ -1,6 +1,7 @@
 pub mod Bytes
 pub mod Layout
-pub mod Book
+pub mod Kinds
+pub mod Contents
 pub mod Rules
 pub mod Faults
 pub mod Reading

@@ -1,15 +1,17 @@
--- The rules that a road book obeys.
+-- The rules that a book obeys.
 use Rattle.std.specs.Prelude.{◌≡◌, ℕ, ◌+◌, ◌<◌, ◌≤◌, List, [], ◌∷◌, length, Some, None, Option}
 use Rattle.network.specs.Meaning.{Among}
+use Rattle.records.specs.declared.kind.Kind.{Kind}
+use Rattle.records.specs.declared.kind.Kind.TheVariants.{Road, Timetable}
 use Rattle.records.specs.declared.layout.Point.{Point}
 use Rattle.records.specs.declared.layout.End.TheVariants.{Tail, Head}
-use Rattle.records.specs.Layout.{kind_in, header_in, Within, size}
-use Rattle.records.specs.Book.{Book, book_in, points_of, lowest_after}
+use Rattle.records.specs.Layout.{kind_number, kind_in, header_in, Within, size}
+use Rattle.records.specs.Contents.{Contents, book_in, points_of, lowest_after}
 
 -- the words begin with a header of this kind, and are as many as it says
-pub record Headed (asked : ℕ) (words : List ℕ) : Type 0 where
+pub record Headed (asked : Kind) (words : List ℕ) : Type 0 where
   pub long : 5 ≤ length words
-  pub kind : kind_in words ≡ asked
+  pub kind : kind_in words ≡ kind_number asked
   pub limits : Within (header_in words)
   pub full : length words ≡ size (header_in words)
 
@@ -33,11 +35,13 @@ abbrev pub Rising : Option Point → List Point → Type 0
 Rising before [] = Unit {0}
 Rising before (q ∷ qs) = Follows before q × Rising (Some q) qs
 
-abbrev pub Road : List Point → Type 0
-Road ps = Rising None ps
+-- the order that a kind asks for along a chain: sailings may stand in any
+abbrev pub Ordered : Kind → Option Point → List Point → Type 0
+Ordered Road before ps = Rising before ps
+Ordered Timetable before ps = Unit {0}
 
--- the rules for the records of every book
-pub record WellFormed (b : Book) : Type 0 where
+-- the rules for a book's records
+pub record WellFormed (b : Contents) : Type 0 where
   pub tails : (k : ℕ) → Among k b.header.links → Among (b.link k).tail b.header.places
   pub heads : (k : ℕ) → Among k b.header.links → Among (b.link k).head b.header.places
   pub floors : (k : ℕ) → Among k b.header.links → Among (b.link k).floor b.header.last
@@ -51,9 +55,9 @@ pub record WellFormed (b : Book) : Type 0 where
   pub next_ins : (k : ℕ) → Among k b.header.links → (b.link k).next_in ≡ lowest_after b Head (b.link k).head k
   -- what lies on no chain may hold any times
   pub times : (k : ℕ) → Among k b.header.links → AllTimely (b.link k).floor b.header.last (points_of b k)
+  pub orders : (k : ℕ) → Among k b.header.links → Ordered b.kind None (points_of b k)
 
--- The words are a road book that obeys every rule.
-pub record Obeys (words : List ℕ) : Type 0 where
-  pub header : Headed 1 words
-  pub records : WellFormed (book_in words)
-  pub roads : (k : ℕ) → Among k (header_in words).links → Road (points_of (book_in words) k)
+-- The words are a book of this kind that obeys every rule.
+pub record Obeys (kind : Kind) (words : List ℕ) : Type 0 where
+  pub header : Headed kind words
+  pub records : WellFormed (book_in kind words)

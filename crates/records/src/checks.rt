@@ -1,8 +1,9 @@
 // The checks of a book's records, and the first fault that they find.
 ghost use Rattle.std.specs.Prelude.{◌≡◌};
 ghost use Rattle.records.specs.Reading.{book_of};
-ghost use Rattle.records.specs.Faults.{first_of, first_by, fault_by, count_for, link_fault, point_fault, place_chain_fault, link_chain_fault, road_fault, timely, follows};
+ghost use Rattle.records.specs.Faults.{first_of, first_by, fault_by, count_for, link_fault, point_fault, place_chain_fault, link_chain_fault, times_fault, timely, follows};
 
+use crate::kind::Kind;
 use crate::layout::{End, Header, Link, Point};
 use crate::records::Records;
 use network::among;
@@ -16,7 +17,7 @@ pub enum Check {
     Points,
     PlaceChains,
     LinkChains,
-    Roads,
+    Times,
 }
 
 impl Link {
@@ -25,22 +26,13 @@ impl Link {
     {
         let at = Record::Link(number);
         if !among(self.tail, header.places) || !among(self.head, header.places) {
-            return Some(Fault {
-                cause: Cause::Ends,
-                at,
-            });
+            return Some(Cause::Ends.at(at));
         }
         if !among(self.floor, header.last) {
-            return Some(Fault {
-                cause: Cause::Floor,
-                at,
-            });
+            return Some(Cause::Floor.at(at));
         }
         if !among(self.first_point, header.points) {
-            return Some(Fault {
-                cause: Cause::PointIndex,
-                at,
-            });
+            return Some(Cause::PointIndex.at(at));
         }
         None
     }
@@ -51,10 +43,7 @@ impl Point {
         ensures { result ≡ point_fault header.now number self.now }
     {
         if self.next > header.points || (self.next != 0 && self.next <= number) {
-            return Some(Fault {
-                cause: Cause::PointIndex,
-                at: Record::Point(number),
-            });
+            return Some(Cause::PointIndex.at(Record::Point(number)));
         }
         None
     }
@@ -69,13 +58,13 @@ impl Point {
             && floor <= self.arrival - self.departure
     }
 
-    // Whether it departs after the point before, if there is one, and arrives no earlier.
-    fn follows(&self, before: &Option<Point>) -> bool
-        ensures { result ≡ follows before.now self.now }
+    // Whether it may follow the point before, if there is one: on a road it departs later and arrives no earlier.
+    fn follows(&self, kind: Kind, before: &Option<Point>) -> bool
+        ensures { result ≡ follows kind before.now self.now }
     {
-        match before {
-            None => true,
-            Some(p) => p.departure < self.departure && p.arrival <= self.arrival,
+        match (kind, before) {
+            (Kind::Road, Some(p)) => p.departure < self.departure && p.arrival <= self.arrival,
+            _ => true,
         }
     }
 }
@@ -88,10 +77,7 @@ impl Records {
         if place.first_out != self.lowest(End::Tail, number, 0)
             || place.first_in != self.lowest(End::Head, number, 0)
         {
-            return Some(Fault {
-                cause: Cause::Chain,
-                at: Record::Place(number),
-            });
+            return Some(Cause::Chain.at(Record::Place(number)));
         }
         None
     }
@@ -103,40 +89,25 @@ impl Records {
         if link.next_out != self.lowest(End::Tail, link.tail, number)
             || link.next_in != self.lowest(End::Head, link.head, number)
         {
-            return Some(Fault {
-                cause: Cause::Chain,
-                at: Record::Link(number),
-            });
+            return Some(Cause::Chain.at(Record::Link(number)));
         }
         None
     }
 
     // The first fault along a link's chain of points.
-    fn road_fault(&self, number: u32) -> Option<Fault>
-        ensures { result ≡ road_fault (book_of self.now) number }
+    fn times_fault(&self, number: u32) -> Option<Fault>
+        ensures { result ≡ times_fault (book_of self.now) number }
     {
         let link = self.link(number);
         let mut before = None;
-        let mut at = link.first_point;
-        for _ in 0..self.header.points {
-            if at == 0 {
-                return None;
-            }
-            let point = self.point(at);
+        for (at, point) in self.chain(number) {
             if !point.timely(link.floor, self.header.last) {
-                return Some(Fault {
-                    cause: Cause::Time { link: number },
-                    at: Record::Point(at),
-                });
+                return Some(Cause::Time { link: number }.at(Record::Point(at)));
             }
-            if !point.follows(&before) {
-                return Some(Fault {
-                    cause: Cause::Order { link: number },
-                    at: Record::Point(at),
-                });
+            if !point.follows(self.kind, &before) {
+                return Some(Cause::Order { link: number }.at(Record::Point(at)));
             }
             before = Some(point);
-            at = point.next;
         }
         None
     }
@@ -149,7 +120,7 @@ impl Records {
             Check::Points => self.point(number).fault(number, &self.header),
             Check::PlaceChains => self.place_chain_fault(number),
             Check::LinkChains => self.link_chain_fault(number),
-            Check::Roads => self.road_fault(number),
+            Check::Times => self.times_fault(number),
         }
     }
 
@@ -157,7 +128,7 @@ impl Records {
         ensures { result ≡ count_for self.now.header check }
     {
         match check {
-            Check::Links | Check::LinkChains | Check::Roads => self.header.links,
+            Check::Links | Check::LinkChains | Check::Times => self.header.links,
             Check::Points => self.header.points,
             Check::PlaceChains => self.header.places,
         }

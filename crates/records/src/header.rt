@@ -3,6 +3,7 @@ ghost use Rattle.std.specs.Prelude.{◌≡◌, drop, Some, None, MatchResult};
 ghost use Rattle.records.specs.Layout.{header_in, within, size};
 ghost use Rattle.records.specs.Faults.{header_fault, size_fault, or_else};
 
+use crate::kind::Kind;
 use crate::layout::Header;
 use crate::records::Records;
 use crate::refused::Refused;
@@ -29,20 +30,14 @@ impl Header {
 
     // The header of a book of this kind and the words after it, or what is wrong with the header.
     #[tactic(auto, using(crate::proofs::Headers::other_kind))]
-    pub fn split(words: &[u32], kind: u32) -> Result<(Header, &[u32]), Fault>
+    pub fn split(words: &[u32], kind: Kind) -> Result<(Header, &[u32]), Fault>
         ensures { MatchResult result (λ x. (header_fault kind words.now ≡ None) × (x.0 ≡ header_in words.now) × (x.1.now ≡ drop 5 words.now)) (λ f. header_fault kind words.now ≡ Some f) }
     {
         let [first, places, links, points, last, rest @ ..] = words else {
-            return Err(Fault {
-                cause: Cause::Length,
-                at: Record::Header,
-            });
+            return Err(Cause::Length.at(Record::Header));
         };
-        if *first != kind {
-            return Err(Fault {
-                cause: Cause::Kind,
-                at: Record::Header,
-            });
+        if *first != kind.number() {
+            return Err(Cause::Kind.at(Record::Header));
         }
         let header = Header {
             places: *places,
@@ -51,10 +46,7 @@ impl Header {
             last: *last,
         };
         if !header.within_limits() {
-            return Err(Fault {
-                cause: Cause::Limits,
-                at: Record::Header,
-            });
+            return Err(Cause::Limits.at(Record::Header));
         }
         Ok((header, rest))
     }
@@ -62,24 +54,25 @@ impl Header {
 
 impl Records {
     // The words behind a right header of this kind, or the fault and the words again.
-    pub fn read(words: Vec<u32>, kind: u32) -> Result<Records, Refused>
-        ensures { MatchResult result (λ s. (or_else (header_fault kind words.items) (size_fault words.items) ≡ None) × (s.words ≡ words)) (λ e. (or_else (header_fault kind words.items) (size_fault words.items) ≡ Some e.fault) × (e.words ≡ words)) }
+    pub fn read(words: Vec<u32>, kind: Kind) -> Result<Records, Refused>
+        ensures { MatchResult result (λ s. (or_else (header_fault kind words.items) (size_fault words.items) ≡ None) × (s.kind ≡ kind) × (s.words ≡ words)) (λ e. (or_else (header_fault kind words.items) (size_fault words.items) ≡ Some e.fault) × (e.words ≡ words)) }
     {
         let header = match Header::split(words.as_slice(), kind) {
             Err(fault) => return Err(Refused { fault, words }),
             Ok((header, rest)) => {
                 if 5 + rest.len() != header.size() {
                     return Err(Refused {
-                        fault: Fault {
-                            cause: Cause::Length,
-                            at: Record::Header,
-                        },
+                        fault: Cause::Length.at(Record::Header),
                         words,
                     });
                 }
                 header
             }
         };
-        Ok(Records { words, header })
+        Ok(Records {
+            kind,
+            words,
+            header,
+        })
     }
 }

@@ -10,14 +10,14 @@ pub struct Header {
 }
 
 // The lowest links out of a place and into it.
-#[derive(Clone, Copy)]
+#[derive(Clone, Copy, Default)]
 pub struct Place {
     pub first_out: u32,
     pub first_in: u32,
 }
 
 // A link from its tail to its head, the next links with the same tail and with the same head, and its first point.
-#[derive(Clone, Copy)]
+#[derive(Clone, Copy, Default)]
 pub struct Link {
     pub tail: u32,
     pub head: u32,
@@ -28,7 +28,7 @@ pub struct Link {
 }
 
 // A departure with its arrival, and the next point of the chain.
-#[derive(Clone, Copy)]
+#[derive(Clone, Copy, Default)]
 pub struct Point {
     pub departure: u32,
     pub arrival: u32,

@@ -1,6 +1,6 @@
 // The records by number. One that isn't there is all zero.
 ghost use Rattle.std.specs.Prelude.{◌≡◌};
-ghost use Rattle.records.specs.Book.{end_of, lowest_after};
+ghost use Rattle.records.specs.Contents.{end_of, lowest_after};
 ghost use Rattle.records.specs.Reading.{book_of};
 
 use crate::layout::{End, Link, Place, Point};
@@ -12,10 +12,7 @@ impl Records {
         ensures { result ≡ (book_of self.now).place number }
     {
         if !among(number, self.header.places) {
-            return Place {
-                first_out: 0,
-                first_in: 0,
-            };
+            return Place::default();
         }
         let words = self.words.as_slice();
         let at = 5 + 2 * (number as usize - 1);
@@ -29,14 +26,7 @@ impl Records {
         ensures { result ≡ (book_of self.now).link number }
     {
         if !among(number, self.header.links) {
-            return Link {
-                tail: 0,
-                head: 0,
-                next_out: 0,
-                next_in: 0,
-                floor: 0,
-                first_point: 0,
-            };
+            return Link::default();
         }
         let words = self.words.as_slice();
         let at = 5 + 2 * self.header.places as usize + 6 * (number as usize - 1);
@@ -54,11 +44,7 @@ impl Records {
         ensures { result ≡ (book_of self.now).point number }
     {
         if !among(number, self.header.points) {
-            return Point {
-                departure: 0,
-                arrival: 0,
-                next: 0,
-            };
+            return Point::default();
         }
         let words = self.words.as_slice();
         let at = 5

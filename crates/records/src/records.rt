@@ -2,10 +2,12 @@
 ghost use Rattle.std.specs.Prelude.{◌≡◌, true, length};
 ghost use Rattle.records.specs.Layout.{header_in, within, size};
 
+use crate::kind::Kind;
 use crate::layout::Header;
 
 #[derive(Drop)]
 pub struct Records {
+    pub kind: Kind,
     pub words: Vec<u32>,
     pub header: Header,
     ghost read: { header ≡ header_in words.items },

@@ -34,6 +34,13 @@ pub struct Fault {
 }
 
 impl Cause {
+    // The fault that this cause at a record is.
+    pub fn at(self, at: Record) -> Fault
+        ensures { result ≡ record { cause = self; at = at } }
+    {
+        Fault { cause: self, at }
+    }
+
     pub fn number(&self) -> u32
         ensures { result ≡ cause_number self.now }
     {

@@ -1,6 +1,6 @@
 use Rattle.std.proofs.Common.{refl}
-use Rattle.contents.specs.Layout.{place_at, link_at, point_at}
-use Rattle.contents.specs.Faults.{header_fault, size_fault, fault_by, first_fault}
+use Rattle.records.specs.Layout.{place_at, link_at, point_at}
+use Rattle.records.specs.Faults.{header_fault, size_fault, fault_by, first_fault}
 use Rattle.quay.proofs.book_rows.Goals as goal
 
 pub returns : goal.returns

@@ -19,6 +19,6 @@ pub returns-in-LinkChains : goal.returns-in-LinkChains
 unfolding fault_by
 returns-in-LinkChains c = c.link_chain_fault.ensures ∙ ap (λ k. fault_by (book_of c.args.self.now) k c.args.number) (sym c.in-LinkChains.is)
 
-pub returns-in-Roads : goal.returns-in-Roads
+pub returns-in-Times : goal.returns-in-Times
 unfolding fault_by
-returns-in-Roads c = c.road_fault.ensures ∙ ap (λ k. fault_by (book_of c.args.self.now) k c.args.number) (sym c.in-Roads.is)
+returns-in-Times c = c.times_fault.ensures ∙ ap (λ k. fault_by (book_of c.args.self.now) k c.args.number) (sym c.in-Times.is)

@@ -1,6 +1,6 @@
 use Rattle.std.proofs.Common.{sym, ap, ◌∙◌, arith}
 use Rattle.network.proofs.Lowest.{lowest_hit, lowest_more}
-use Rattle.records.specs.Book.{end_of}
+use Rattle.records.specs.Contents.{end_of}
 use Rattle.records.specs.Reading.{book_of}
 use Rattle.records.proofs.records.Records.lowest.Goals as goal
 

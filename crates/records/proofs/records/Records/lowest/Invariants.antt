@@ -1,5 +1,5 @@
 use Rattle.network.proofs.Lowest.{Scanned}
-use Rattle.records.specs.Book.{end_of}
+use Rattle.records.specs.Contents.{end_of}
 use Rattle.records.specs.Reading.{book_of}
 use Rattle.records.proofs.records.Records.lowest.Given as goal
 

@@ -1,11 +1,11 @@
-use Rattle.std.proofs.Common.{sym, ◌∙◌}
+use Rattle.std.proofs.Common.{◌≡◌, sym, ◌∙◌, rules}
 use Rattle.std.proofs.lemmas.Bool.{cond-true, cond-false}
-use Rattle.records.specs.Layout.{place_at}
+use Rattle.records.specs.Layout.{no_place, place_at}
 use Rattle.records.proofs.records.Records.place.Goals as goal
 
 pub returns-then-not-among : goal.returns-then-not-among
 unfolding place_at
-returns-then-not-among c = sym (cond-false _ _ _ (sym c.among.ensures ∙ c.if-not-among.true))
+returns-then-not-among c = let e : c.default.result ≡ no_place = search rules in e ∙ sym (cond-false _ _ _ (sym c.among.ensures ∙ c.if-not-among.true))
 
 pub returns : goal.returns
 unfolding place_at

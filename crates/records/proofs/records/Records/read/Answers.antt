@@ -1,4 +1,5 @@
 use Rattle.std.proofs.Common.{◌≡◌, ℕ, ◌+◌, List, length, drop, Some, None, sym, refl, ap, ◌∙◌, subst, arith, length-drop}
+use Rattle.records.specs.declared.kind.Kind.{Kind}
 use Rattle.records.specs.Layout.{header_in, within, size}
 use Rattle.records.specs.Faults.{header_fault}
 use Rattle.records.proofs.Unless.{or_first, or_next}
@@ -6,7 +7,7 @@ use Rattle.records.proofs.Headers.{read_from_none, not_full, full}
 use Rattle.records.proofs.records.Records.read.Goals as goal
 
 -- what the parts say of all words, where the slice that was split holds them
-module _ (kind : ℕ) (words slice rest : List ℕ) (same : slice ≡ words) (none : header_fault kind slice ≡ None) (cut : rest ≡ drop 5 slice) where
+module _ (kind : Kind) (words slice rest : List ℕ) (same : slice ≡ words) (none : header_fault kind slice ≡ None) (cut : rest ≡ drop 5 slice) where
   right : header_fault kind words ≡ None
   right = subst (λ ws. header_fault kind ws ≡ None) same none
 
@@ -22,7 +23,7 @@ returns-then-rest-size c =
     let s = c.in-Ok.ensures in
     let r = right c.args.kind _ _ c.in-Ok.rest.now v s.0 s.2 in
     let w = whole c.args.kind _ _ c.in-Ok.rest.now v s.0 s.2 in
-    (or_next _ _ r ∙ not_full _ (λ e. c.if-rest-size.true (w ∙ (e ∙ (ap size (sym (s.1 ∙ ap header_in v)) ∙ sym c.size.ensures)))), refl)
+    rw c.at.ensures (or_next _ _ r ∙ not_full _ (λ e. c.if-rest-size.true (w ∙ (e ∙ (ap size (sym (s.1 ∙ ap header_in v)) ∙ sym c.size.ensures)))), refl)
 
 pub invariant_of-result : goal.invariant_of-result
 invariant_of-result c =
@@ -39,4 +40,4 @@ returns c =
     let s = c.in-Ok.ensures in
     let r = right c.args.kind _ _ c.in-Ok.rest.now v s.0 s.2 in
     let w = whole c.args.kind _ _ c.in-Ok.rest.now v s.0 s.2 in
-    (or_next _ _ r ∙ full _ (sym w ∙ (c.if-rest-size.false ∙ (c.size.ensures ∙ ap size (s.1 ∙ ap header_in v)))), refl)
+    (or_next _ _ r ∙ full _ (sym w ∙ (c.if-rest-size.false ∙ (c.size.ensures ∙ ap size (s.1 ∙ ap header_in v)))), refl, refl)

@@ -1,8 +1,0 @@
-use Rattle.std.proofs.Common.{ap, ◌∙◌}
-use Rattle.records.specs.declared.layout.Place.{Place}
-use Rattle.books.specs.Opened.{open_book}
-use Rattle.books.specs.Sound.{sound, out_first}
-use Rattle.books.proofs.net.RoadBookNetwork.first_out.Goals as goal
-
-pub returns : goal.returns
-returns c = ap (λ (x : Place). x.first_out) c.place.ensures ∙ out_first (open_book c.args.self.now) (sound c.args.self.now) c.args.place

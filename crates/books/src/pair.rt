@@ -1,0 +1,66 @@
+// A road book and a timetable, opened as one.
+ghost use Rattle.books.specs.Pairs.{OpenedBoth};
+
+use crate::book::Book;
+use records::kind::Kind;
+use records::refused::Refused;
+use joined::{Joined, Unjoined};
+use refusals::fault::Fault;
+use refusals::joining::Misfit;
+
+// What is wrong with two books: a fault of one of them, which its kind names, or that they can't be joined.
+#[derive(Clone, Copy, PartialEq, Eq, Debug)]
+pub enum PairFault {
+    Half { half: Kind, fault: Fault },
+    Joining(Misfit),
+}
+
+// Two books that were refused, and the words of both as they were handed over.
+#[derive(Drop)]
+pub struct RefusedPair {
+    pub fault: PairFault,
+    pub roads: Vec<u32>,
+    pub ferries: Vec<u32>,
+}
+
+// The words of a road book and of a timetable as one network; else the first fault, and the words of both again.
+pub fn open_both(roads: Vec<u32>, ferries: Vec<u32>) -> Result<Joined<Book, Book>, RefusedPair>
+    ensures { OpenedBoth roads ferries result }
+{
+    let roads = match Book::open(Kind::Road, roads) {
+        Ok(book) => book,
+        Err(Refused { fault, words }) => {
+            let half = Kind::Road;
+            return Err(RefusedPair {
+                fault: PairFault::Half { half, fault },
+                roads: words,
+                ferries,
+            });
+        }
+    };
+    let ferries = match Book::open(Kind::Timetable, ferries) {
+        Ok(book) => book,
+        Err(Refused { fault, words }) => {
+            let half = Kind::Timetable;
+            return Err(RefusedPair {
+                fault: PairFault::Half { half, fault },
+                roads: roads.into_words(),
+                ferries: words,
+            });
+        }
+    };
+    match Joined::join(roads, ferries) {
+        Ok(both) => Ok(both),
+        Err(
+            Unjoined {
+                misfit,
+                first,
+                second,
+            },
+        ) => Err(RefusedPair {
+            fault: PairFault::Joining(misfit),
+            roads: first.into_words(),
+            ferries: second.into_words(),
+        }),
+    }
+}

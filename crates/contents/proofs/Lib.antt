@@ -1,5 +1,0 @@
-pub mod Unless
-pub mod Firsts
-pub mod Headers
-pub mod Chains
-pub mod Obeying

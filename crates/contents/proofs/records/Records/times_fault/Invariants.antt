@@ -1,9 +1,0 @@
-use Rattle.std.proofs.Common.{◌≡◌}
-use Rattle.contents.specs.Reading.{book_of, to_come}
-use Rattle.contents.specs.Faults.{walk_fault, times_fault}
-use Rattle.contents.proofs.records.Records.times_fault.Given as goal
-
-abbrev pub invariant-loop-at : goal.invariant-loop-at
-invariant-loop-at l =
-    (goal.iterator-loop-at).can_next l.at-iterator × (goal.iterator-loop-at).is_finite l.at-iterator
-    × (walk_fault (book_of l.self) l.number l.before (to_come l.at-iterator) ≡ times_fault (book_of l.self) l.number)

@@ -1,5 +1,0 @@
-pub mod Layout
-pub mod Contents
-pub mod Rules
-pub mod Faults
-pub mod Reading

@@ -1,8 +1,0 @@
-use Rattle.std.proofs.Common.{ap, ◌∙◌}
-use Rattle.contents.specs.declared.layout.Place.{Place}
-use Rattle.timetables.specs.Opened.{open_book}
-use Rattle.timetables.specs.Sound.{sound, in_first}
-use Rattle.timetables.proofs.net.BookNetwork.first_in.Goals as goal
-
-pub returns : goal.returns
-returns c = ap (λ (x : Place). x.first_in) c.place.ensures ∙ in_first (open_book c.args.self.now) (sound c.args.self.now) c.args.place
