@@ -5,13 +5,18 @@ use Rattle.records.specs.declared.kind.Kind.{Kind}
 use Rattle.records.specs.declared.kind.Kind.TheVariants.{Road, Timetable}
 use Rattle.records.specs.declared.layout.Point.{Point}
 use Rattle.records.specs.Contents.{Contents, points_of}
-use Rattle.books.specs.Roads.{road}
-use Rattle.books.specs.Sailings.{sailing}
+use Rattle.books.specs.Roads.{road, road_back}
+use Rattle.books.specs.Sailings.{sailing, sailing_back}
 
 -- the arrival for a tick over a chain of points
 abbrev pub arrival_by : Kind → List Point → ℕ → Option ℕ
 arrival_by Road = road
 arrival_by Timetable = sailing
+
+-- the latest departure along a chain, as it is computed; that it is the latest is proved
+abbrev pub back_by : Kind → List Point → ℕ → Option ℕ
+back_by Road = road_back
+back_by Timetable = sailing_back
 
 abbrev pub book_network : Contents → Meaning
 book_network b =

@@ -10,6 +10,7 @@ use Rattle.records.specs.declared.kind.Kind.TheVariants.{Road, Timetable}
 use Rattle.records.specs.Contents.{book_in}
 use Rattle.records.specs.Rules.{Obeys}
 use Rattle.records.specs.Faults.{first_fault}
+use Rattle.books.specs.declared.kinds.BookKind.{Ghosts}
 use Rattle.books.specs.declared.book.Book.{Book}
 use Rattle.books.specs.declared.pair.PairFault.{PairFault}
 use Rattle.books.specs.declared.pair.PairFault.TheVariants.{Half, Joining}
@@ -37,16 +38,16 @@ pair_fault roads ferries =
     (half_fault Timetable (first_fault Timetable ferries)
     (joining_fault (words_misfit roads ferries)))
 
-abbrev pub pair_fault_named : Result (Joined Book Book) RefusedPair → Option PairFault
+abbrev pub pair_fault_named : {K L : Type 0} {k : Ghosts K} {l : Ghosts L} → Result (Joined (Book K k) (Book L l)) RefusedPair → Option PairFault
 pair_fault_named (Ok both) = None
 pair_fault_named (Err refused) = Some refused.fault
 
 -- the words of both, in the open books or handed back
-abbrev pub pair_words_held : Result (Joined Book Book) RefusedPair → Vec ℕ Global × Vec ℕ Global
+abbrev pub pair_words_held : {K L : Type 0} {k : Ghosts K} {l : Ghosts L} → Result (Joined (Book K k) (Book L l)) RefusedPair → Vec ℕ Global × Vec ℕ Global
 pair_words_held (Ok both) = (both.first.records.words, both.second.records.words)
 pair_words_held (Err refused) = (refused.roads, refused.ferries)
 
-pub record OpenedBoth (roads ferries : Vec ℕ Global) (r : Result (Joined Book Book) RefusedPair) : Type 0 where
+pub record OpenedBoth {K L : Type 0} {k : Ghosts K} {l : Ghosts L} (roads ferries : Vec ℕ Global) (r : Result (Joined (Book K k) (Book L l)) RefusedPair) : Type 0 where
   pub accepted : (is_ok r ≡ true) ↔ (Obeys Road (vec_items roads) × Obeys Timetable (vec_items ferries) × (words_misfit (vec_items roads) (vec_items ferries) ≡ None))
   pub books : IfOk r (λ both. (open_book both.first ≡ book_in Road (vec_items roads)) × (open_book both.second ≡ book_in Timetable (vec_items ferries)))
   pub fault : pair_fault_named r ≡ pair_fault (vec_items roads) (vec_items ferries)

@@ -52,3 +52,13 @@ back_along before (q ∷ qs) a = cond (nat_le q.arrival a) (back_along (Some q) 
 
 abbrev pub road_back : List Point → ℕ → Option ℕ
 road_back ps a = back_along None ps a
+
+-- The first and the last of a chain's points.
+
+abbrev pub last_of : Point → List Point → Point
+last_of p [] = p
+last_of p (q ∷ qs) = last_of q qs
+
+abbrev pub ends_of : List Point → Option (Point × Point)
+ends_of [] = None
+ends_of (p ∷ ps) = Some (p, last_of p ps)

@@ -18,15 +18,14 @@ use Rattle.records.specs.declared.layout.End.{End}
 use Rattle.records.specs.declared.layout.End.TheVariants.{Tail, Head}
 use Rattle.refusals.specs.declared.fault.Fault.{Fault}
 use Rattle.records.specs.declared.records.Records.{Records}
+use Rattle.books.specs.declared.kinds.BookKind.{Ghosts}
 use Rattle.books.specs.declared.book.Book.{Book}
 use Rattle.records.specs.Layout.{header_in, Within, no_place, no_link, place_at, link_at}
 use Rattle.records.specs.Contents.{Contents, laid_out, book_in, unnumbered, points_of, end_of, lowest_after}
 use Rattle.records.specs.Rules.{AllTimely, Ordered, WellFormed, Obeys}
 use Rattle.records.specs.Faults.{first_fault}
 use Rattle.records.specs.Reading.{book_of}
-use Rattle.books.specs.Roads.{road_back}
-use Rattle.books.specs.Sailings.{sailing_back}
-use Rattle.books.specs.Networks.{arrival_by, book_network}
+use Rattle.books.specs.Networks.{arrival_by, back_by, book_network}
 use Rattle.books.specs.Opened.{open_book}
 use Rattle.records.proofs.Chains.{chain_end}
 use Rattle.records.proofs.Obeying.{obeys_from_none, none_from_obeys}
@@ -68,17 +67,12 @@ absent_link : (kind : Kind) (words : List ℕ) (k : ℕ) → (Among k (header_in
 unfolding link_at
 absent_link kind words k h = cond-false _ _ _ (false_among k _ h)
 
-pub sound : (b : Book) → Sound (open_book b)
+pub sound : {K : Type 0} {kind : Ghosts K} (b : Book K kind) → Sound (open_book b)
 sound b =
     let kind = b.records.kind in
     let words = vec_items b.records.words in
     let o = obeyed kind words b.obeys in
     subst Sound (sym (same_book b.records)) (record { limits = o.header.limits; records = o.records; no_place = absent_place kind words; no_link = absent_link kind words })
-
--- the latest departure along a chain, as it is computed
-abbrev pub back_by : Kind → List Point → ℕ → Option ℕ
-back_by Road = road_back
-back_by Timetable = sailing_back
 
 timed : (kind : Kind) (floor last : ℕ) (ps : List Point) → AllTimely floor last ps → Ordered kind None ps → Timed floor last (arrival_by kind ps) (back_by kind ps)
 timed Road floor last ps ts r = road_timed floor last ps ts r
@@ -165,3 +159,7 @@ module _ (b : Contents) (s : Sound b) where
 
   pub in_next : (k : ℕ) → (b.link k).next_in ≡ next_in (book_network b) k
   in_next k = next_found Head k _ (s.records.next_ins k) (λ n. ap (λ (l : Link). l.next_in) (s.no_link k n))
+
+-- the points along a chain stand in the order that the type of the book asks for
+pub ordered : {K : Type 0} {of : Ghosts K} (b : Book K of) (k : ℕ) → Ordered of.kind None (points_of (open_book b) k)
+ordered {of = of} b k = subst (λ (kind : Kind). Ordered kind None (points_of (open_book b) k)) b.of_kind (in_order (open_book b) (sound b) k)

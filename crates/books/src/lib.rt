@@ -2,8 +2,17 @@
 #![tactic(auto)]
 
 pub mod book;
-pub mod net;
+pub mod kinds;
+mod net;
 mod open;
 pub mod pair;
-mod roads;
+pub mod roads;
 pub mod sailings;
+
+use book::Book;
+use roads::Roads;
+use sailings::Sailings;
+
+pub type RoadBook = Book<Roads>;
+
+pub type Timetable = Book<Sailings>;

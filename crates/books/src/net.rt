@@ -1,17 +1,20 @@
 // A book is a network.
 ghost use Rattle.std.specs.Prelude.{◌≡◌};
-ghost use Rattle.books.specs.Opened.{open_book};
-ghost use Rattle.records.specs.Contents.{chain_of};
+ghost use Rattle.records.specs.Contents.{chain_of, points_of};
 ghost use Rattle.records.specs.Reading.{to_come};
 ghost use Rattle.books.specs.Networks.{book_network};
+ghost use Rattle.books.specs.Opened.{open_book};
+ghost use Rattle.books.specs.Roads.{ends_of};
 ghost use Rattle.books.specs.Sound.{sound, laws};
 
 use crate::book::Book;
+use crate::kinds::BookKind;
+use network::Network;
 use records::chain::Chain;
 use records::kind::Kind;
-use network::Network;
+use records::layout::Point;
 
-impl Network for Book {
+impl<K: BookKind> Network for Book<K> {
     ghost meaning = { λ s. book_network (open_book s) };
 
     ghost lawful = { λ x. laws (open_book x) (sound x) };
@@ -44,20 +47,14 @@ impl Network for Book {
         if tick > self.records.header.last {
             return None;
         }
-        match self.records.kind {
-            Kind::Road => self.drive(link, tick),
-            Kind::Timetable => self.sail(link, tick),
-        }
+        K::arrival(self.records.chain(link), tick)
     }
 
     fn latest_departure(&self, link: u32, tick: u32) -> Option<u32> {
         if tick > self.records.header.last {
             return None;
         }
-        match self.records.kind {
-            Kind::Road => self.drive_back(link, tick),
-            Kind::Timetable => self.sail_back(link, tick),
-        }
+        K::latest_departure(self.records.chain(link), tick)
     }
 
     fn first_out(&self, place: u32) -> u32 {
@@ -77,7 +74,7 @@ impl Network for Book {
     }
 }
 
-impl Book {
+impl<K: BookKind> Book<K> {
     pub fn kind(&self) -> Kind
         ensures { result ≡ (open_book self.now).kind }
     {
@@ -103,5 +100,15 @@ impl Book {
         ensures { to_come result ≡ chain_of (open_book self.now) link }
     {
         self.records.chain(link)
+    }
+
+    // The first and the last point of a link's chain, or none for a link that isn't there.
+    pub fn ends(&self, link: u32) -> Option<(Point, Point)>
+        ensures { result ≡ ends_of (points_of (open_book self.now) link) }
+    {
+        let mut points = self.chain(link);
+        let (_, first) = points.next()?;
+        let last = points.last().map_or(first, |(_, last)| last);
+        Some((first, last))
     }
 }

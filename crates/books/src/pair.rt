@@ -1,10 +1,10 @@
 // A road book and a timetable, opened as one.
 ghost use Rattle.books.specs.Pairs.{OpenedBoth};
 
-use crate::book::Book;
+use crate::{RoadBook, Timetable};
+use joined::{Joined, Unjoined};
 use records::kind::Kind;
 use records::refused::Refused;
-use joined::{Joined, Unjoined};
 use refusals::fault::Fault;
 use refusals::joining::Misfit;
 
@@ -24,10 +24,13 @@ pub struct RefusedPair {
 }
 
 // The words of a road book and of a timetable as one network; else the first fault, and the words of both again.
-pub fn open_both(roads: Vec<u32>, ferries: Vec<u32>) -> Result<Joined<Book, Book>, RefusedPair>
+pub fn open_both(
+    roads: Vec<u32>,
+    ferries: Vec<u32>,
+) -> Result<Joined<RoadBook, Timetable>, RefusedPair>
     ensures { OpenedBoth roads ferries result }
 {
-    let roads = match Book::open(Kind::Road, roads) {
+    let roads = match RoadBook::open(roads) {
         Ok(book) => book,
         Err(Refused { fault, words }) => {
             let half = Kind::Road;
@@ -38,7 +41,7 @@ pub fn open_both(roads: Vec<u32>, ferries: Vec<u32>) -> Result<Joined<Book, Book
             });
         }
     };
-    let ferries = match Book::open(Kind::Timetable, ferries) {
+    let ferries = match Timetable::open(ferries) {
         Ok(book) => book,
         Err(Refused { fault, words }) => {
             let half = Kind::Timetable;

@@ -1,55 +1,35 @@
 // Sailings: the least arrival among those still to depart, and the latest departure among those that arrive in time.
-ghost use Rattle.std.specs.Prelude.{◌≡◌, Some};
-ghost use Rattle.books.specs.Ticks.{earlier, later_of};
-ghost use Rattle.records.specs.Contents.{points_of};
-ghost use Rattle.books.specs.Opened.{open_book};
-ghost use Rattle.books.specs.Sailings.{sailing, sailing_back, SailingIsLeast};
+ghost use Rattle.std.specs.Prelude.{◌≡◌};
+ghost use Rattle.records.specs.declared.kind.Kind.TheVariants.{Timetable};
+ghost use Rattle.books.specs.Sailings.{SailingIsLeast};
 
-use crate::book::Book;
+use crate::kinds::BookKind;
+use records::chain::Chain;
+use records::kind::Kind;
 
-fn earlier(best: Option<u32>, arrival: u32) -> u32
-    ensures { Some result ≡ earlier best (Some arrival) }
-{
-    match best {
-        None => arrival,
-        Some(other) => other.min(arrival),
-    }
-}
+// A ferry sails at fixed ticks.
+#[derive(Clone, Copy)]
+pub struct Sailings;
 
-fn later(best: Option<u32>, departure: u32) -> u32
-    ensures { Some result ≡ later_of best (Some departure) }
-{
-    match best {
-        None => departure,
-        Some(other) => other.max(departure),
-    }
-}
+impl BookKind for Sailings {
+    ghost kind = { Timetable };
 
-impl Book {
-    // The arrival of the sailings that depart at a tick or later.
-    pub(crate) fn sail(&self, link: u32, tick: u32) -> Option<u32>
-        ensures { result ≡ sailing (points_of (open_book self.now) link) tick }
-    {
-        let mut best = None;
-        for (_, point) in self.records.chain(link) {
-            if tick <= point.departure {
-                best = Some(earlier(best, point.arrival));
-            }
-        }
-        best
+    fn kind() -> Kind {
+        Kind::Timetable
     }
 
-    // The latest departure of the sailings that arrive by a tick.
-    pub(crate) fn sail_back(&self, link: u32, tick: u32) -> Option<u32>
-        ensures { result ≡ sailing_back (points_of (open_book self.now) link) tick }
-    {
-        let mut best = None;
-        for (_, point) in self.records.chain(link) {
-            if point.arrival <= tick {
-                best = Some(later(best, point.departure));
-            }
-        }
-        best
+    fn arrival(points: Chain<'_>, tick: u32) -> Option<u32> {
+        points
+            .filter(|(_, sailing)| tick <= sailing.departure)
+            .map(|(_, sailing)| sailing.arrival)
+            .min()
+    }
+
+    fn latest_departure(points: Chain<'_>, tick: u32) -> Option<u32> {
+        points
+            .filter(|(_, sailing)| sailing.arrival <= tick)
+            .map(|(_, sailing)| sailing.departure)
+            .max()
     }
 }
 

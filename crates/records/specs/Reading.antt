@@ -1,5 +1,5 @@
 -- The book that a value of the code holds.
-use Rattle.std.specs.Prelude.{◌≡◌, ℕ, List, [], ◌∷◌, Some, None, vec_items, Option}
+use Rattle.std.specs.Prelude.{ℕ, List, vec_items}
 use Rattle.records.specs.declared.layout.Point.{Point}
 use Rattle.records.specs.declared.records.Records.{Records}
 use Rattle.records.specs.declared.chain.Chain.{Chain}
@@ -11,8 +11,3 @@ book_of r = laid_out r.kind r.header (vec_items r.words)
 -- the points still to come on a walk along a chain
 abbrev pub to_come : Chain → List (ℕ × Point)
 to_come c = chain (book_of c.records.now).point c.left c.at
-
--- the next of the points to come, or none where there are none, and those after it
-abbrev pub Comes : List (ℕ × Point) → Option (ℕ × Point) → List (ℕ × Point) → Type 0
-Comes before None after = before ≡ []
-Comes before (Some p) after = before ≡ p ∷ after

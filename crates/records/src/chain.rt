@@ -1,8 +1,8 @@
 // The points along a link's chain.
 ghost use Rattle.std.specs.Prelude.{◌≡◌};
 ghost use Rattle.records.specs.Contents.{chain_of};
-ghost use Rattle.records.specs.Reading.{book_of, to_come, Comes};
-ghost use Rattle.std.specs.Iterator.{at_most};
+ghost use Rattle.records.specs.Reading.{book_of, to_come};
+ghost use Rattle.std.specs.Iterator.{YieldsFirst, item_count};
 
 use crate::layout::Point;
 use crate::records::Records;
@@ -31,9 +31,9 @@ impl Records {
 impl<'a> Iterator for Chain<'a> {
     type Item = (u32, Point);
 
-    ghost next_gives = { λ s r t. Comes (to_come s) r (to_come t) };
+    ghost next_gives = { YieldsFirst to_come };
 
-    ghost remaining = { λ s. at_most s.left };
+    ghost remaining = { item_count to_come };
 
     fn next(&mut self) -> Option<(u32, Point)> {
         if self.at == 0 || self.left == 0 {

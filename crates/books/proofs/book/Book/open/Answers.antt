@@ -40,31 +40,31 @@ unfolding first_fault
 records_first r kind words o k e h f = or_or (header_fault kind (vec_items words)) (size_fault (vec_items words)) _ ∙ (or_next _ _ h ∙ sym (f ∙ ap (λ b. first_by b all_checks) (held r kind words k e)))
 
 pub returns-in_err-records : goal.returns-in_err-records
-returns-in_err-records c =
+returns-in_err-records g c =
     let p = err_from_is_err_and c.from_residual.result c.from_residual.ensures.1 in
-    let h = c.in_err-records.ensures in
+    let h = rw c.kind-kind.ensures at c.in_err-records.ensures in
     let f = header_first _ _ _ h.0 in
     rw (p.1, p.2) (record { accepted = not_obeyed _ _ _ f; book = tt; fault = sym f; words = h.1 })
 
 pub returns-in-Some : goal.returns-in-Some
-returns-in-Some c =
-    let h = c.in_ok-records.ensures in
-    let f = records_first c.in_ok-records.records c.args.kind c.args.words _ h.1 h.2 h.0 c.first_fault.ensures ∙ c.in-Some.is in
+returns-in-Some g c =
+    let h = rw c.kind-kind.ensures at c.in_ok-records.ensures in
+    let f = records_first c.in_ok-records.records g.K.BookKind.kind c.args.words _ h.1 h.2 h.0 c.first_fault.ensures ∙ c.in-Some.is in
     record { accepted = not_obeyed _ _ _ f; book = tt; fault = sym f; words = h.2 }
 
 pub invariant_of-result : goal.invariant_of-result
-invariant_of-result c =
-    let h = c.in_ok-records.ensures in
-    let f = records_first c.in_ok-records.records c.args.kind c.args.words _ h.1 h.2 h.0 c.first_fault.ensures ∙ c.in_default.is in
-    record { obeys = ∣ obeys_from_none _ _ (ap₂ (λ (k : Kind) (w : Vec ℕ Global). first_fault k (vec_items w)) h.1 h.2 ∙ f) ∣₁ }
+invariant_of-result g c =
+    let h = rw c.kind-kind.ensures at c.in_ok-records.ensures in
+    let f = records_first c.in_ok-records.records g.K.BookKind.kind c.args.words _ h.1 h.2 h.0 c.first_fault.ensures ∙ c.in_default.is in
+    record { of_kind = h.1; obeys = ∣ obeys_from_none _ _ (ap₂ (λ (k : Kind) (w : Vec ℕ Global). first_fault k (vec_items w)) h.1 h.2 ∙ f) ∣₁ }
 
 pub returns : goal.returns
-returns c =
-    let h = c.in_ok-records.ensures in
-    let f = records_first c.in_ok-records.records c.args.kind c.args.words _ h.1 h.2 h.0 c.first_fault.ensures ∙ c.in_default.is in
+returns g c =
+    let h = rw c.kind-kind.ensures at c.in_ok-records.ensures in
+    let f = records_first c.in_ok-records.records g.K.BookKind.kind c.args.words _ h.1 h.2 h.0 c.first_fault.ensures ∙ c.in_default.is in
     record {
       accepted = obeyed _ _ f;
-      book = held c.in_ok-records.records c.args.kind c.args.words h.1 h.2;
+      book = held c.in_ok-records.records g.K.BookKind.kind c.args.words h.1 h.2;
       fault = sym f;
       words = h.2;
     }

@@ -5,4 +5,4 @@ use Rattle.books.specs.Sound.{sound, in_first}
 use Rattle.books.proofs.net.BookNetwork.first_in.Goals as goal
 
 pub returns : goal.returns
-returns c = ap (λ (x : Place). x.first_in) c.place.ensures ∙ in_first (open_book c.args.self.now) (sound c.args.self.now) c.args.place
+returns g c = ap (λ (x : Place). x.first_in) c.place.ensures ∙ in_first (open_book c.args.self.now) (sound c.args.self.now) c.args.place

@@ -5,4 +5,4 @@ use Rattle.books.specs.Sound.{sound, out_first}
 use Rattle.books.proofs.net.BookNetwork.first_out.Goals as goal
 
 pub returns : goal.returns
-returns c = ap (λ (x : Place). x.first_out) c.place.ensures ∙ out_first (open_book c.args.self.now) (sound c.args.self.now) c.args.place
+returns g c = ap (λ (x : Place). x.first_out) c.place.ensures ∙ out_first (open_book c.args.self.now) (sound c.args.self.now) c.args.place

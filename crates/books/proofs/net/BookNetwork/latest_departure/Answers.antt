@@ -1,12 +1,20 @@
-use Rattle.std.proofs.Common.{sym, ap, ◌∙◌}
+use Rattle.std.proofs.Common.{List, None, sym, ap, subst, ◌∙◌}
 use Rattle.records.specs.declared.kind.Kind.{Kind}
-use Rattle.records.specs.Contents.{points_of}
+use Rattle.records.specs.declared.layout.Point.{Point}
+use Rattle.records.specs.Contents.{unnumbered, points_of}
+use Rattle.records.specs.Rules.{Ordered}
+use Rattle.books.specs.Networks.{back_by}
 use Rattle.books.specs.Opened.{open_book}
-use Rattle.books.specs.Sound.{sound, back_by, latest_back}
+use Rattle.books.specs.Sound.{sound, ordered, latest_back}
 use Rattle.books.proofs.net.BookNetwork.latest_departure.Goals as goal
 
-pub returns-in-Road : goal.returns-in-Road
-returns-in-Road c = c.drive_back.ensures ∙ (ap (λ (k : Kind). back_by k (points_of (open_book c.args.self.now) c.args.link) c.args.tick) (sym c.in-Road.is) ∙ latest_back (open_book c.args.self.now) (sound c.args.self.now) c.args.link c.args.tick c.if-tick-self.false)
+pub latest_departure-requires : goal.latest_departure-requires
+latest_departure-requires g c = subst (λ (ps : List Point). Ordered g.K.BookKind.kind None ps) (sym (ap unnumbered c.chain.ensures)) (ordered c.args.self.now c.args.link)
 
-pub returns-in-Timetable : goal.returns-in-Timetable
-returns-in-Timetable c = c.sail_back.ensures ∙ (ap (λ (k : Kind). back_by k (points_of (open_book c.args.self.now) c.args.link) c.args.tick) (sym c.in-Timetable.is) ∙ latest_back (open_book c.args.self.now) (sound c.args.self.now) c.args.link c.args.tick c.if-tick-self.false)
+pub returns : goal.returns
+returns g c =
+    let b = open_book c.args.self.now in
+    c.latest_departure.ensures
+    ∙ (ap (λ ps. back_by g.K.BookKind.kind ps c.args.tick) (ap unnumbered c.chain.ensures)
+    ∙ (ap (λ (kind : Kind). back_by kind (points_of b c.args.link) c.args.tick) (sym c.args.self.now.of_kind)
+    ∙ latest_back b (sound c.args.self.now) c.args.link c.args.tick c.if-tick-self.false))

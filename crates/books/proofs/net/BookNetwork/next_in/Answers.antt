@@ -5,4 +5,4 @@ use Rattle.books.specs.Sound.{sound, in_next}
 use Rattle.books.proofs.net.BookNetwork.next_in.Goals as goal
 
 pub returns : goal.returns
-returns c = ap (λ (x : Link). x.next_in) c.link.ensures ∙ in_next (open_book c.args.self.now) (sound c.args.self.now) c.args.link
+returns g c = ap (λ (x : Link). x.next_in) c.link.ensures ∙ in_next (open_book c.args.self.now) (sound c.args.self.now) c.args.link

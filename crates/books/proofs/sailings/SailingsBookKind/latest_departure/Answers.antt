@@ -1,0 +1,22 @@
+use Rattle.std.proofs.Common.{ℕ, leb, sym, refl, ◌∙◌, rules, tests}
+use Rattle.std.proofs.lemmas.Iterator.{YieldsList-from_map}
+use Rattle.std.proofs.lemmas.Iterator.Adapters.{option_map_id}
+use Rattle.std.proofs.lemmas.Iterator.Consumers.{YieldsList-at, YieldsList-from_first, YieldsList-from_filter, max_from_yields_List}
+use Rattle.records.specs.declared.layout.Point.{Point}
+use Rattle.records.specs.Reading.{to_come}
+use Rattle.books.proofs.Sails.{latest}
+use Rattle.books.proofs.sailings.SailingsBookKind.latest_departure.Goals as goal
+
+pub returns : goal.returns
+returns c =
+    sym (option_map_id c.max.result)
+    ∙ (max_from_yields_List _ _ c.max.ensures.ran
+    (YieldsList-from_map _ (λ (x : ℕ × Point). x.1.departure)
+    (YieldsList-at c.map.ensures.source
+    (YieldsList-from_filter _ (λ (x : ℕ × Point). leb x.1.arrival c.args.tick)
+    (YieldsList-at c.filter.ensures.source (YieldsList-from_first (λ x. x) to_come (to_come c.args.points) refl))
+    c.filter.ensures.closure
+    (λ x b q k. search (rules, tests))))
+    c.map.ensures.closure
+    (λ x r q k. search (rules, tests)))
+    ∙ latest c.args.tick (to_come c.args.points))
