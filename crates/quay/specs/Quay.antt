@@ -5,8 +5,9 @@ use Rattle.network.specs.Latest.{latest}
 use Rattle.journeys.specs.Earliest.{earliest}
 use Rattle.journeys.specs.Roads.{road_list}
 use Rattle.journeys.specs.Turned.{turned, latest_start}
-use Rattle.records.specs.Book.{book_in}
-use Rattle.books.specs.Roads.{road_network}
+use Rattle.records.specs.declared.kind.Kind.TheVariants.{Road}
+use Rattle.records.specs.Contents.{book_in}
+use Rattle.books.specs.Networks.{book_network}
 use Rattle.layers.specs.Retimed.{over}
 use Rattle.notices.specs.Closures.{closed}
 use Rattle.notices.specs.Delays.{delayed}
@@ -36,7 +37,7 @@ abbrev pub quay_words : List ℕ
 quay_words = header ++ places ++ links ++ points
 
 abbrev pub quay : Meaning
-quay = road_network (book_in quay_words)
+quay = book_network (book_in Road quay_words)
 
 -- the Quay network with link 1 shut from 0 to 5
 abbrev pub quay_shut : Meaning
@@ -48,7 +49,7 @@ quay_delayed = over (delayed (record { link = 2; ticks = 7 } ∷ [])) quay
 
 -- The rows of the worked example.
 pub record Rows : Type 0 where
-  pub accepted : first_fault quay_words ≡ None
+  pub accepted : first_fault Road quay_words ≡ None
   pub link_1 : map (quay.arrival 1) (0 ∷ 9 ∷ 13 ∷ 20 ∷ 21 ∷ []) ≡ Some 10 ∷ Some 14 ∷ Some 22 ∷ Some 40 ∷ None ∷ []
   pub latest_1 : map (latest quay 1) (9 ∷ 10 ∷ 14 ∷ 15 ∷ 39 ∷ 40 ∷ []) ≡ None ∷ Some 1 ∷ Some 9 ∷ Some 10 ∷ Some 19 ∷ Some 20 ∷ []
   pub turned_1 : map ((turned quay).arrival 1) (60 ∷ 86 ∷ 90 ∷ 91 ∷ []) ≡ Some 80 ∷ Some 91 ∷ Some 99 ∷ None ∷ []

@@ -1,10 +1,12 @@
 // The worked example: the Quay book, with three places and four links, and a ferry's timetable that can be joined to it.
 #![tactic(auto)]
 
-ghost use Rattle.std.specs.Prelude.{◌≡◌};
+ghost use Rattle.std.specs.Prelude.{◌≡◌, IfOk};
 ghost use Rattle.quay.specs.Quay.{quay_words, Rows};
 ghost use Rattle.quay.specs.Ferry.{ferry_words};
-ghost use Rattle.quay.specs.AsBook.{BookRows};
+ghost use Rattle.quay.specs.Changes.{changed};
+
+use std::alloc::{AllocError, Global};
 
 // The book's words; a comment ends each part.
 pub fn words() -> [u32; 62]
@@ -36,7 +38,15 @@ pub fn rows()
     ensures { Rows }
 {}
 
-// The rows hold of the same words opened as a book of kind `Road`.
-pub fn book_rows()
-    ensures { BookRows }
-{}
+// Words with some of them changed, each given by its index.
+pub fn changed(heap: Global, words: &[u32], changes: &[(usize, u32)]) -> Result<Vec<u32>, AllocError>
+    ensures { IfOk result (λ v. v.items ≡ changed words.now changes.now) }
+{
+    let mut changed = words.to_vec(heap)?;
+    for (at, word) in changes {
+        if *at < changed.len() {
+            changed[*at] = *word;
+        }
+    }
+    Ok(changed)
+}

@@ -3,3 +3,4 @@ pub mod Firsts
 pub mod Headers
 pub mod Chains
 pub mod Obeying
+pub mod Words

@@ -5,6 +5,7 @@ use Rattle.std.proofs.lemmas.Bool.{le-leb, lt-leb, and_from, and_left, and_right
 use Rattle.refusals.specs.declared.fault.Cause.TheVariants.{Length}
 use Rattle.refusals.specs.declared.fault.Record.TheVariants.{Header as of_header}
 use Rattle.refusals.specs.declared.fault.Fault.{Fault}
+use Rattle.records.specs.declared.kind.Kind.TheVariants.{Road}
 use Rattle.records.specs.Layout.{header_in, size}
 use Rattle.records.specs.Faults.{header_fault}
 use Rattle.records.proofs.Unless.{fault, passed, caught, or_first, or_next}
@@ -13,12 +14,12 @@ use Rattle.requests.proofs.book_size.Goals as goal
 
 module _ (words : List ℕ) where
   -- a fault of the header comes first
-  header_first : (f : Fault) → header_fault 1 words ≡ Some f → front_fault words ≡ Some f
+  header_first : (f : Fault) → header_fault Road words ≡ Some f → front_fault words ≡ Some f
   unfolding front_fault
   header_first f e = or_first _ _ f e
 
   -- once the header is right, the book's size decides
-  module _ (right : header_fault 1 words ≡ None) where
+  module _ (right : header_fault Road words ≡ None) where
     not_there : (length words < size (header_in words)) ⊎ (16384 < size (header_in words)) → front_fault words ≡ fault Length of_header
     unfolding front_fault
     not_there (inl h) = or_next _ _ right ∙ caught _ Length of_header None (and_left _ (leb (size (header_in words)) 16384) (lt-leb _ _ h))
@@ -37,10 +38,10 @@ pub returns-then-words-size : goal.returns-then-words-size
 returns-then-words-size c =
     let h = c.in_ok-header.ensures in
     let s : c.size-size.result ≡ size (header_in c.args.words.now) = c.size-size.ensures ∙ ap size h.1 in
-    record {
+    rw c.at.ensures (record {
       cases = not_there _ h.0 (elim c.then-words-size.either [ inl l ↦ inl (omega (arith, l)) | inr r ↦ inr (omega (arith, r.1)) ]);
       within = tt;
-    }
+    })
 
 pub returns : goal.returns
 returns c =
