@@ -1,2 +1,4 @@
+pub mod Found
+pub mod Shutting
 pub mod Changes
 pub mod Planning

@@ -6,8 +6,9 @@ use Rattle.refusals.specs.declared.notice.NoticeRefusal.TheVariants.{AlreadyStan
 use Rattle.network.specs.Laws.{NoLater}
 use Rattle.notices.specs.declared.notice.Closure.{Closure}
 use Rattle.notices.specs.declared.notice.Delay.{Delay}
-use Rattle.tables.specs.Finds.{any_of, without, replaced}
-use Rattle.tables.specs.Refusals.{first_refusal, unless, full}
+use Rattle.std.specs.List.{list_any}
+use Rattle.notices.specs.Finds.{without, replaced}
+use Rattle.notices.specs.Refusals.{first_refusal, unless, full}
 use Rattle.notices.specs.Closures.{same, shuts, shut, next_open}
 use Rattle.notices.specs.Delays.{on_link, ticks_of, delay_on}
 use Rattle.notices.specs.Calls.{up_refusal, down_refusal, down_after, set_refusal, set_after, clear_refusal, clear_after}
@@ -52,7 +53,7 @@ set_each d [] o = (refl, tt)
 set_each d (x ∷ xs) o = go (set_each d xs o.1) (on_link d.link x) refl
   where
     go : OneEach (replaced (on_link d.link) d xs) → (b : Bool) → on_link d.link x ≡ b → OneEach (cond b (d ∷ xs) (x ∷ replaced (on_link d.link) d xs))
-    go rest true h = (subst (λ j. any_of (on_link j) xs ≡ false) (eqb-true x.link d.link h) o.0, o.1)
+    go rest true h = (subst (λ j. list_any (on_link j) xs ≡ false) (eqb-true x.link d.link h) o.0, o.1)
     go rest false h = (none_replaced (on_link d.link) (on_link x.link) d xs (ne_eqb d.link x.link (λ z. eqb-false x.link d.link h (sym z))) o.0, rest)
 
 -- refused or not
@@ -68,11 +69,11 @@ one_each = record {
 }
 
 -- what isn't refused stood apart, or stood
-fresh : (cs : List Closure) (c : Closure) → up_refusal cs c ≡ None → any_of (same c) cs ≡ false
-fresh cs c e = ⊎_elim (λ h. absurd (let r = ap (λ b. first_refusal ((b, AlreadyStanding) ∷ (full cs, NoRoom) ∷ [])) h in let z : ◌≡◌ {A = ℕ} 0 1 = cc in omega arith)) (λ h. h) (cases_Bool (any_of (same c) cs))
+fresh : (cs : List Closure) (c : Closure) → up_refusal cs c ≡ None → list_any (same c) cs ≡ false
+fresh cs c e = ⊎_elim (λ h. absurd (let r = ap (λ b. first_refusal ((b, AlreadyStanding) ∷ (full cs, NoRoom) ∷ [])) h in let z : ◌≡◌ {A = ℕ} 0 1 = cc in omega arith)) (λ h. h) (cases_Bool (list_any (same c) cs))
 
-stood : (cs : List Closure) (c : Closure) → down_refusal cs c ≡ None → any_of (same c) cs ≡ true
-stood cs c e = ⊎_elim (λ h. h) (λ h. absurd (let r = ap (λ b. first_refusal ((not b, NotStanding) ∷ [])) h in let z : ◌≡◌ {A = ℕ} 0 1 = cc in omega arith)) (cases_Bool (any_of (same c) cs))
+stood : (cs : List Closure) (c : Closure) → down_refusal cs c ≡ None → list_any (same c) cs ≡ true
+stood cs c e = ⊎_elim (λ h. h) (λ h. absurd (let r = ap (λ b. first_refusal ((not b, NotStanding) ∷ [])) h in let z : ◌≡◌ {A = ℕ} 0 1 = cc in omega arith)) (cases_Bool (list_any (same c) cs))
 
 -- closures that are the same have the same numbers
 same_parts : (c d : Closure) → same c d ≡ true → (d.link ≡ c.link) × (d.from ≡ c.from) × (d.until ≡ c.until)
@@ -102,7 +103,7 @@ up_shuts cs c e k t = ap (λ r. shut (unless r cs (cs ++ c ∷ [])) k t) e ∙ a
 
 pub down_takes : DownTakesOneClosure
 down_takes cs c e = record {
-  gone = λ o. ap (any_of (same c)) is ∙ only_taken same (same c) (same_like c) cs o;
+  gone = λ o. ap (list_any (same c)) is ∙ only_taken same (same c) (same_like c) cs o;
   others = λ k t. any_taken (shuts k t) (same c) c (same_shuts k t c) cs (stood cs c e) ∙ sym (ap (λ after. shut after k t || shuts k t c) is);
 }
   where

@@ -3,7 +3,7 @@ use Rattle.std.specs.Prelude.{ℕ, zero, suc, ◌-◌, Bool, cond, ◌&&◌, Lis
 use Rattle.network.specs.Meaning.{Meaning}
 use Rattle.layers.specs.Retimed.{Arrivals}
 use Rattle.notices.specs.declared.notice.Closure.{Closure}
-use Rattle.tables.specs.Finds.{any_of}
+use Rattle.std.specs.List.{list_any}
 
 -- whether two closures are the same notice
 abbrev pub same : Closure → Closure → Bool
@@ -15,7 +15,7 @@ shuts k t c = c.link == k && (nat_le c.from t && nat_lt t c.until)
 
 -- whether one of the closures shuts link k at tick t
 abbrev pub shut : List Closure → ℕ → ℕ → Bool
-shut cs k t = any_of (shuts k t) cs
+shut cs k t = list_any (shuts k t) cs
 
 -- the earliest of the `count` ticks from t that isn't shut
 abbrev pub open_from : (ℕ → Bool) → ℕ → ℕ → Option ℕ

@@ -3,7 +3,7 @@ use Rattle.std.specs.Prelude.{ℕ, Bool, List, Some, None, Option, ◌==◌}
 use Rattle.network.specs.Meaning.{Meaning}
 use Rattle.layers.specs.Retimed.{Arrivals, later}
 use Rattle.notices.specs.declared.notice.Delay.{Delay}
-use Rattle.tables.specs.Finds.{first_of}
+use Rattle.std.specs.List.{find}
 
 -- whether a delay is on link k
 abbrev pub on_link : ℕ → Delay → Bool
@@ -16,7 +16,7 @@ ticks_of (Some d) = d.ticks
 
 -- the ticks of the delay on link k
 abbrev pub delay_on : ℕ → List Delay → ℕ
-delay_on k ds = ticks_of (first_of (on_link k) ds)
+delay_on k ds = ticks_of (find (on_link k) ds)
 
 -- an arrival that comes `by` ticks later, none above the last tick
 abbrev pub late : ℕ → ℕ → Option ℕ → Option ℕ

@@ -1,7 +1,8 @@
+pub mod Finds
+pub mod Refusals
 pub mod Closures
 pub mod Delays
 pub mod Calls
-pub mod Standing
 pub mod Theorems
 pub mod Shut
 pub mod Opens

@@ -1,12 +1,9 @@
 -- The earliest and the latest tick that isn't shut.
-use Rattle.std.specs.Prelude.{◌≡◌, ℕ, zero, suc, ◌+◌, ◌-◌, ◌<◌, ◌≤◌, Bool, true, false, cond, List, Some, None, Option, ◌==◌, nat_le, nat_lt, refl}
+use Rattle.std.specs.Prelude.{◌≡◌, ℕ, zero, suc, ◌+◌, ◌-◌, ◌<◌, ◌≤◌, Bool, true, false, cond, Some, Option, refl}
 use Rattle.std.proofs.Common.{sym, ap, ap₂, ◌∙◌, ⊎_elim, arith}
-use Rattle.std.proofs.lemmas.Bool.{and_parts, and_from, leb-true, le-leb, ltb-true, lt-ltb, cond-true, cond-false, both_ways, cases_eq}
+use Rattle.std.proofs.lemmas.Bool.{cond-true, cond-false, both_ways, cases_eq}
 use Rattle.network.specs.Laws.{NoLater, NotBefore}
-use Rattle.notices.specs.declared.notice.Closure.{Closure}
-use Rattle.notices.specs.Closures.{shuts, shut, open_from, open_below}
-use Rattle.tables.specs.Finds.{first_of}
-use Rattle.tables.proofs.Found.{first_passes, first_none}
+use Rattle.notices.specs.Closures.{open_from, open_below}
 
 -- o is the earliest open one of the n ticks from t
 pub record Opening (sh : ℕ → Bool) (t n : ℕ) (o : Option ℕ) : Type 0 where
@@ -69,23 +66,3 @@ module _ (sh : ℕ → Bool) where
 
   pub back : (f t : ℕ) → f ≤ t → ((s : ℕ) → f ≤ s → s ≤ t → sh s ≡ true) → open_below sh f ≡ open_below sh (suc t)
   back f t l h = let z : suc t ≡ f + (suc t - f) = omega arith in sym (ap (open_below sh) z ∙ fall (suc t - f) f (λ s m n. h s m (omega arith)))
-
--- a closure that shuts link k at tick t, and shuts it for so long
-pub record Window (cs : List Closure) (k t : ℕ) (c : Closure) : Type 0 where
-  pub begun : c.from ≤ t
-  pub ahead : t < c.until
-  pub shut : (s : ℕ) → c.from ≤ s → s < c.until → shut cs k s ≡ true
-
-pub window : (cs : List Closure) (k t : ℕ) (c : Closure) → Some c ≡ first_of (shuts k t) cs → Window cs k t c
-window cs k t c e =
-    let found = first_passes (shuts k t) cs c (sym e) in
-    let a = and_parts (c.link == k) _ found.0 in
-    let b = and_parts (nat_le c.from t) (nat_lt t c.until) a.1 in
-    record {
-      begun = leb-true _ _ b.0;
-      ahead = ltb-true _ _ b.1;
-      shut = λ s l m. found.1 (shuts k s) (and_from (c.link == k) _ a.0 (and_from (nat_le c.from s) _ (le-leb _ _ l) (lt-ltb _ _ m)));
-    }
-
-pub no_window : (cs : List Closure) (k t : ℕ) → None ≡ first_of (shuts k t) cs → shut cs k t ≡ false
-no_window cs k t e = first_none (shuts k t) cs (sym e)

@@ -2,7 +2,7 @@
 use Rattle.std.specs.Prelude.{◌≡◌, ℕ, ◌<◌, ◌≤◌, Bool, true, false, ◌||◌, List, [], ◌∷◌, Some, None, Option, ◌≢◌}
 use Rattle.notices.specs.declared.notice.Closure.{Closure}
 use Rattle.notices.specs.declared.notice.Delay.{Delay}
-use Rattle.tables.specs.Finds.{any_of}
+use Rattle.std.specs.List.{list_any}
 use Rattle.notices.specs.Closures.{same, shuts, shut, next_open}
 use Rattle.notices.specs.Delays.{on_link, delay_on}
 use Rattle.notices.specs.Calls.{up_refusal, up_after, down_refusal, down_after, set_refusal, set_after, clear_refusal, clear_after}
@@ -24,11 +24,11 @@ UpShutsItsTicks = (cs : List Closure) (c : Closure) → up_refusal cs c ≡ None
 -- no two of a list are alike
 abbrev pub NoneTwice : {X : Type 0} → (X → X → Bool) → List X → Type 0
 NoneTwice alike [] = Unit {0}
-NoneTwice alike (x ∷ xs) = (any_of (alike x) xs ≡ false) × NoneTwice alike xs
+NoneTwice alike (x ∷ xs) = (list_any (alike x) xs ≡ false) × NoneTwice alike xs
 
 -- A closure that comes down no longer stands, and what the others shut stays shut.
 pub record ClosureIsDown (cs : List Closure) (c : Closure) : Type 0 where
-  pub gone : NoneTwice same cs → any_of (same c) (down_after cs c) ≡ false
+  pub gone : NoneTwice same cs → list_any (same c) (down_after cs c) ≡ false
   pub others : (k t : ℕ) → shut cs k t ≡ (shut (down_after cs c) k t || shuts k t c)
 
 abbrev pub DownTakesOneClosure : Type 0

@@ -1,24 +1,18 @@
 // The ticks at which a link is open.
 ghost use Rattle.std.specs.Prelude.{◌≡◌};
+ghost use Rattle.std.specs.List.{find};
 ghost use Rattle.notices.specs.Closures.{shuts, next_open, last_open};
 
 use crate::notice::Closure;
-use tables::keyed::{Keyed, find};
 
-// A link at a tick.
-#[derive(Clone, Copy)]
-pub(crate) struct Moment {
-    pub(crate) link: u32,
-    pub(crate) tick: u32,
-}
-
-// A closure is found at each moment that it shuts.
-impl Keyed<Moment> for Closure {
-    ghost fits = { λ at closure. shuts at.link at.tick closure };
-
-    fn has_key(&self, key: &Moment) -> bool {
-        self.link == key.link && self.from <= key.tick && key.tick < self.until
-    }
+// The first closure that shuts the link at the tick.
+fn shutting(closures: &[Closure], link: u32, tick: u32) -> Option<Closure>
+    ensures { result ≡ find (shuts link tick) closures.now }
+{
+    closures
+        .iter()
+        .copied()
+        .find(|closure| closure.shuts(link, tick))
 }
 
 // The earliest tick from this one to the last at which the link is open. From a shut tick the walk goes on at the end of the closure
@@ -28,7 +22,7 @@ pub(crate) fn open_from(closures: &[Closure], link: u32, tick: u32, last: u32) -
 {
     let mut t = tick;
     while t <= last {
-        match find(closures, &Moment { link, tick: t }) {
+        match shutting(closures, link, t) {
             None => return Some(t),
             Some(closure) => t = closure.until,
         }
@@ -41,11 +35,8 @@ pub(crate) fn open_until(closures: &[Closure], link: u32, tick: u32) -> Option<u
     ensures { result ≡ last_open closures.now link tick }
 {
     let mut t = tick;
-    while let Some(closure) = find(closures, &Moment { link, tick: t }) {
-        if closure.from == 0 {
-            return None;
-        }
-        t = closure.from - 1;
+    while let Some(closure) = shutting(closures, link, t) {
+        t = closure.from.checked_sub(1)?;
     }
     Some(t)
 }

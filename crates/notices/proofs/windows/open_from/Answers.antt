@@ -1,6 +1,7 @@
 use Rattle.std.proofs.Common.{◌≡◌, false, ◌∙◌, arith}
 use Rattle.notices.specs.Closures.{shut}
-use Rattle.notices.specs.Opens.{Window, window, no_window, jump, stop}
+use Rattle.notices.specs.Opens.{jump, stop}
+use Rattle.notices.proofs.Shutting.{Window, window, no_window}
 use Rattle.notices.proofs.windows.open_from.Goals as goal
 
 pub returns-in-None : goal.returns-in-None

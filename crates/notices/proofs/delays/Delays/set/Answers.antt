@@ -1,17 +1,16 @@
-use Rattle.std.proofs.Common.{◌≡◌, true, not, ◌&&◌, [], ◌∷◌, sym, ap, ◌∙◌}
-use Rattle.refusals.specs.declared.notice.NoticeRefusal.TheVariants.{NoDelay, NoRoom}
-use Rattle.network.specs.Meaning.{among}
-use Rattle.tables.specs.Finds.{any_of, replaced}
-use Rattle.tables.specs.Refusals.{first_refusal, unless, full, put_refusal}
-use Rattle.notices.specs.Calls.{set_refusal}
+use Rattle.std.proofs.Common.{arith}
+use Rattle.std.proofs.lemmas.Grind.{common_steps}
 use Rattle.notices.specs.Delays.{on_link}
-use Rattle.notices.specs.Standing.{delays_of}
+use Rattle.notices.proofs.Found.{first_at, none_of, written}
 use Rattle.notices.proofs.delays.Delays.set.Goals as goal
 
-pub returns : goal.returns
-returns c =
-    let p = on_link c.args.delay.link in
-    let ds = delays_of c.args.self.now in
-    let fair : among c.args.delay.ticks 86400 ≡ true = sym c.if-not-among.ensures in
-    let answer : set_refusal ds c.args.delay ≡ put_refusal p ds = ap (λ a. first_refusal ((not a, NoDelay) ∷ (not (any_of p ds) && full ds, NoRoom) ∷ [])) fair in
-    record { reply = c.put.ensures.reply ∙ sym answer; delays = c.put.ensures.rows ∙ sym (ap (λ o. unless o ds (replaced p c.args.delay ds)) answer) }
+pub returns-in-Some : goal.returns-in-Some
+returns-in-Some c =
+    let found = first_at (on_link c.args.delay.link) c.args.self.now c.in-Some.at c.in-Some.ensures in
+    let write = written (on_link c.args.delay.link) c.args.self.now c.in-Some.at c.args.delay c.in-Some.ensures in
+    record { reply = grind (arith, common_steps, found.some); delays = rw (c.deref_mut.ensures.value, c.self.view_is) (grind (arith, common_steps, found.some, write)) }
+
+pub returns-in-None : goal.returns-in-None
+returns-in-None c =
+    let none = none_of (on_link c.args.delay.link) c.args.self.now c.in-None.ensures in
+    grind (arith, common_steps, none.none, none.put c.args.delay)

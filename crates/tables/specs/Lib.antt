@@ -1,3 +1,0 @@
-pub mod Finds
-pub mod Rows
-pub mod Refusals
