@@ -1,2 +1,3 @@
-pub mod Small
 pub mod Offering
+pub mod Leads
+pub mod Ranges

@@ -1,10 +1,12 @@
 -- Estimates by sound columns are fit, and small.
-use Rattle.std.specs.Prelude.{◌≡◌, ℕ, zero, suc, ◌+◌, ◌≤◌, List, [], ◌∷◌, take, slice_index, slice_index_or, refl}
+use Rattle.std.specs.Prelude.{◌≡◌, ℕ, zero, suc, ◌+◌, ◌≤◌, List, [], ◌∷◌, refl}
 use Rattle.std.proofs.Common.{arith}
+use Rattle.std.proofs.lemmas.List.Elements.{All-head, All-tail}
+use Rattle.std.proofs.lemmas.Grind.{common_steps}
 use Rattle.network.specs.Meaning.{Meaning}
 use Rattle.journeys.specs.Turned.{turned}
 use Rattle.search.specs.Estimate.{Consistent, Fit}
-use Rattle.marks.specs.Columns.{number, AllSound}
+use Rattle.marks.specs.Columns.{number, AllSound, IsSmall, AllSmall}
 use Rattle.marks.specs.Estimates.{lead, forward, backward}
 
 module _ (net : Meaning) (e : ℕ) where
@@ -29,12 +31,14 @@ marks_fit net columns s e = (
   record { consistent = backward_consistent net e columns s; here = lead_here columns e },
 )
 
-number_small : (column : List ℕ) → ((v : ℕ) → slice_index column v ≤ 604800) → (v : ℕ) → number column v ≤ 604800
+number_small : (column : List ℕ) → IsSmall column → (v : ℕ) → number column v ≤ 604800
 number_small column small zero = omega arith
-number_small column small (suc i) = small i
+number_small column small (suc i) = grind (arith, common_steps, small i 0)
 
 -- small numbers make small estimates
-pub lead_small : (n : ℕ) (columns : List (List ℕ)) → ((i v : ℕ) → slice_index (slice_index_or columns i []) v ≤ 604800) → (to from : ℕ) → lead (take n columns) to from ≤ 604800
-lead_small zero columns small to from = omega arith
-lead_small (suc n) [] small to from = omega arith
-lead_small (suc n) (c ∷ cs) small to from = let here = number_small c (small 0) to in let more = lead_small n cs (λ i v. small (suc i) v) to from in omega arith
+pub lead_small : (columns : List (List ℕ)) → AllSmall columns → (to from : ℕ) → lead columns to from ≤ 604800
+lead_small [] small to from = omega arith
+lead_small (c ∷ cs) small to from =
+    let here = number_small c (All-head IsSmall c cs small) to in
+    let more = lead_small cs (All-tail IsSmall c cs small) to from in
+    omega arith

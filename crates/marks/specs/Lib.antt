@@ -1,5 +1,4 @@
 pub mod Columns
 pub mod Estimates
-pub mod Held
 pub mod Offers
 pub mod Estimating

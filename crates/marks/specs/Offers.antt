@@ -1,5 +1,6 @@
 -- What is answered to a column that is offered, and what marks hold after it.
-use Rattle.std.specs.Prelude.{◌≡◌, ℕ, ◌+◌, ◌-◌, Bool, true, false, cond, not, ◌||◌, List, [], ◌∷◌, ◌++◌, length, replicate, Some, None, Ok, Err, Option, Result, ◌==◌, nat_le, nat_lt}
+use Rattle.std.specs.Prelude.{◌≡◌, ℕ, ◌+◌, ◌-◌, Bool, true, false, cond, not, List, [], ◌∷◌, ◌++◌, length, replicate, Some, None, Ok, Err, Option, MatchOption, Result, ◌==◌, nat_le, nat_lt}
+use Rattle.std.specs.List.{list_any}
 use Rattle.network.specs.Meaning.{Meaning, IsLink}
 use Rattle.refusals.specs.declared.column.ColumnRefusal.{ColumnRefusal}
 use Rattle.refusals.specs.declared.column.ColumnRefusal.TheVariants.{TooManyMarks, ColumnLength, AboveLast, BrokenRule}
@@ -7,8 +8,7 @@ use Rattle.marks.specs.Columns.{number, AllSound}
 
 -- whether some number is above the last tick
 abbrev pub some_above : ℕ → List ℕ → Bool
-some_above last [] = false
-some_above last (x ∷ xs) = nat_lt last x || some_above last xs
+some_above last numbers = list_any (λ number. nat_lt last number) numbers
 
 -- this refusal where the test holds, else what comes after
 abbrev pub if_so : Bool → ColumnRefusal → Option ColumnRefusal → Option ColumnRefusal
@@ -27,8 +27,7 @@ breaks net column k = nat_lt (number column (net.tail k) + net.floor k) (number 
 
 -- a link that breaks the rule, or none where no link does
 abbrev pub Broken : Meaning → List ℕ → Option ℕ → Type 0
-Broken net column None = (k : ℕ) → IsLink net k → breaks net column k ≡ false
-Broken net column (Some k) = IsLink net k × (breaks net column k ≡ true)
+Broken net column o = MatchOption o ((k : ℕ) → IsLink net k → breaks net column k ≡ false) (λ k. IsLink net k × (breaks net column k ≡ true))
 
 -- then it is taken if no link breaks the rule, and else refused for one that does, any one of them
 abbrev pub Judged : Meaning → List ℕ → Result (Unit {0}) ColumnRefusal → Type 0

@@ -1,85 +1,64 @@
 // What marks estimate, forward and backward in time.
-ghost use Rattle.std.specs.Prelude.{◌≡◌};
-ghost use Rattle.marks.specs.Columns.{number};
-ghost use Rattle.marks.specs.Estimates.{lead, forward, backward};
-ghost use Rattle.marks.specs.Held.{columns_of};
-ghost use Rattle.marks.specs.Estimating.{lead_small};
+ghost use Rattle.std.specs.Prelude.{◌≡◌, ℕ, ◌≤◌};
+ghost use Rattle.marks.specs.Estimates.{forward, backward};
 
 use crate::marks::Marks;
-use network::Handle;
 use search::estimate::Estimate;
-
-// The number of a place, or 0 for what is no place.
-fn number(column: &[u32; 1024], place: u32) -> u32
-    ensures { result ≡ number column.now place }
-{
-    if place == 0 || place > 1024 {
-        return 0;
-    }
-    column[place as usize - 1]
-}
-
-impl Marks {
-    // The most ticks that a mark shows between two places.
-    pub fn lead(&self, to: u32, from: u32) -> u32
-        ensures { result ≡ lead (columns_of self.now) to from }
-    {
-        let mut most = 0;
-        for column in self.columns() {
-            most = most.max(number(column, to).saturating_sub(number(column, from)));
-        }
-        most
-    }
-}
 
 // The way ahead to a destination.
 #[derive(Drop)]
-pub struct Forward<P> {
-    marks: P,
+pub struct Forward<'a> {
+    marks: &'a Marks,
     destination: u32,
+    ghost small: { (v : ℕ) → forward marks.now destination v ≤ 604800 },
 }
 
 // Backward in time, the way ahead to a start.
 #[derive(Drop)]
-pub struct Backward<P> {
-    marks: P,
+pub struct Backward<'a> {
+    marks: &'a Marks,
     start: u32,
+    ghost small: { (v : ℕ) → backward marks.now start v ≤ 604800 },
 }
 
-impl<'a> Forward<&'a Marks> {
-    pub fn new(marks: &'a Marks, destination: u32) -> Forward<&'a Marks>
+impl<'a> Forward<'a> {
+    pub fn new(marks: &'a Marks, destination: u32) -> Forward<'a>
         ensures marks { result.marks.now ≡ marks.now }
         ensures destination { result.destination ≡ destination }
     {
+        // Read, so that its numbers are known to be small.
+        let _ = &marks.columns;
         Forward { marks, destination }
     }
 }
 
-impl<'a> Backward<&'a Marks> {
-    pub fn new(marks: &'a Marks, start: u32) -> Backward<&'a Marks>
+impl<'a> Backward<'a> {
+    pub fn new(marks: &'a Marks, start: u32) -> Backward<'a>
         ensures marks { result.marks.now ≡ marks.now }
         ensures start { result.start ≡ start }
     {
+        // Read, so that its numbers are known to be small.
+        let _ = &marks.columns;
         Backward { marks, start }
     }
 }
 
-impl<P: Handle<Marks>> Estimate for Forward<P> {
-    ghost ahead = { λ e v. forward (columns_of (P.Handle.lent e.marks)) e.destination v };
+impl<'a> Estimate for Forward<'a> {
+    ghost ahead = { λ e v. forward e.marks.now e.destination v };
 
-    ghost small = { λ x v. let m = P.Handle.lent x.marks in lead_small m.count m.columns m.small x.destination v };
+    ghost small = { λ e v. e.small v };
 
     fn ahead(&self, place: u32) -> u32 {
-        self.marks.get().lead(self.destination, place)
+        self.marks.lead(self.destination, place)
     }
 }
 
-impl<P: Handle<Marks>> Estimate for Backward<P> {
-    ghost ahead = { λ e v. backward (columns_of (P.Handle.lent e.marks)) e.start v };
+impl<'a> Estimate for Backward<'a> {
+    ghost ahead = { λ e v. backward e.marks.now e.start v };
 
-    ghost small = { λ x v. let m = P.Handle.lent x.marks in lead_small m.count m.columns m.small v x.start };
+    ghost small = { λ e v. e.small v };
 
     fn ahead(&self, place: u32) -> u32 {
-        self.marks.get().lead(place, self.start)
+        self.marks.lead(place, self.start)
     }
 }

@@ -1,0 +1,5 @@
+use Rattle.marks.specs.Estimating.{lead_small}
+use Rattle.marks.proofs.estimates.Backward.new.Goals as goal
+
+pub invariant_of-result : goal.invariant_of-result
+invariant_of-result c = record { small = λ v. rw (← c.marks.view_is) (lead_small _ c.marks.invariant _ _) }
