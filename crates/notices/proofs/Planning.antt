@@ -1,14 +1,14 @@
 -- What a planner may rely on.
-use Rattle.std.proofs.Common.{◌≡◌, ℕ, suc, ◌-◌, Bool, true, false, cond, not, ◌&&◌, ◌||◌, eqb, ltb, leb, List, [], ◌∷◌, ◌++◌, Some, None, Option, sym, refl, ap, ◌∙◌, subst, ap₂, ⊎_elim, arith}
-use Rattle.std.proofs.lemmas.Bool.{both_ways, cases_Bool, and_parts, and_from, eqb-true, eqb-false, eq-eqb, ne_eqb}
+use Rattle.std.proofs.Common.{◌≡◌, ℕ, suc, ◌-◌, Bool, true, false, cond, ◌||◌, eqb, List, [], ◌∷◌, ◌++◌, Some, None, Option, sym, refl, ap, ◌∙◌, subst, ⊎_elim, arith}
+use Rattle.std.proofs.lemmas.Bool.{cases_Bool, eqb-true, eqb-false, eq-eqb, ne_eqb}
+use Rattle.std.proofs.lemmas.Grind.{common_steps}
 use Rattle.refusals.specs.declared.notice.NoticeRefusal.{NoticeRefusal}
-use Rattle.refusals.specs.declared.notice.NoticeRefusal.TheVariants.{AlreadyStanding, NotStanding, NoRoom}
 use Rattle.network.specs.Laws.{NoLater}
 use Rattle.notices.specs.declared.notice.Closure.{Closure}
 use Rattle.notices.specs.declared.notice.Delay.{Delay}
 use Rattle.std.specs.List.{list_any}
 use Rattle.notices.specs.Finds.{without, replaced}
-use Rattle.notices.specs.Refusals.{first_refusal, unless, full}
+use Rattle.notices.specs.Refusals.{unless}
 use Rattle.notices.specs.Closures.{same, shuts, shut, next_open}
 use Rattle.notices.specs.Delays.{on_link, ticks_of, delay_on}
 use Rattle.notices.specs.Calls.{up_refusal, down_refusal, down_after, set_refusal, set_after, clear_refusal, clear_after}
@@ -28,7 +28,7 @@ next_earliest cs k t last = record {
 
 -- a delay on link k is on no other
 apart : (j k : ℕ) → (j ≡ k → ⊥) → (d : Delay) → on_link k d ≡ true → on_link j d ≡ false
-apart j k n d e = ne_eqb d.link j (λ z. n (sym z ∙ eqb-true d.link k e))
+apart j k n d e = grind (arith, common_steps)
 
 pub set_one : SetDelaysOneLink
 set_one ds d e = record {
@@ -70,33 +70,23 @@ one_each = record {
 
 -- what isn't refused stood apart, or stood
 fresh : (cs : List Closure) (c : Closure) → up_refusal cs c ≡ None → list_any (same c) cs ≡ false
-fresh cs c e = ⊎_elim (λ h. absurd (let r = ap (λ b. first_refusal ((b, AlreadyStanding) ∷ (full cs, NoRoom) ∷ [])) h in let z : ◌≡◌ {A = ℕ} 0 1 = cc in omega arith)) (λ h. h) (cases_Bool (list_any (same c) cs))
+fresh cs c e = grind arith
 
 stood : (cs : List Closure) (c : Closure) → down_refusal cs c ≡ None → list_any (same c) cs ≡ true
-stood cs c e = ⊎_elim (λ h. h) (λ h. absurd (let r = ap (λ b. first_refusal ((not b, NotStanding) ∷ [])) h in let z : ◌≡◌ {A = ℕ} 0 1 = cc in omega arith)) (cases_Bool (list_any (same c) cs))
+stood cs c e = grind arith
 
 -- closures that are the same have the same numbers
 same_parts : (c d : Closure) → same c d ≡ true → (d.link ≡ c.link) × (d.from ≡ c.from) × (d.until ≡ c.until)
-same_parts c d e =
-    let a = and_parts (eqb d.link c.link) _ e in
-    let b = and_parts (eqb d.from c.from) _ a.1 in
-    (eqb-true _ _ a.0, eqb-true _ _ b.0, eqb-true _ _ b.1)
+same_parts c d e = grind (arith, common_steps)
 
 same_shuts : (k t : ℕ) (c d : Closure) → same c d ≡ true → shuts k t d ≡ shuts k t c
-same_shuts k t c d e =
-    let p = same_parts c d e in
-    ap (λ l. eqb l k && (leb d.from t && ltb t d.until)) p.0 ∙ ap₂ (λ f u. eqb c.link k && (leb f t && ltb t u)) p.1 p.2
+same_shuts k t c d e = grind (arith, same_parts c d e)
 
 same_like : (c d e : Closure) → same c d ≡ true → same c e ≡ same d e
-same_like c d e h =
-    let p = same_parts c d h in
-    sym (ap (λ l. eqb e.link l && (eqb e.from d.from && eqb e.until d.until)) p.0 ∙ ap₂ (λ f u. eqb e.link c.link && (eqb e.from f && eqb e.until u)) p.1 p.2)
+same_like c d e h = grind (arith, same_parts c d h)
 
 same_flip : (c d : Closure) → same d c ≡ false → same c d ≡ false
-same_flip c d e = ⊎_elim (λ h. absurd (both_ways (same d c) e (back h))) (λ h. h) (cases_Bool (same c d))
-  where
-    back : same c d ≡ true → same d c ≡ true
-    back h = let p = same_parts c d h in and_from _ _ (eq-eqb _ _ (sym p.0)) (and_from _ _ (eq-eqb _ _ (sym p.1)) (eq-eqb _ _ (sym p.2)))
+same_flip c d e = grind (arith, common_steps)
 
 pub up_shuts : UpShutsItsTicks
 up_shuts cs c e k t = ap (λ r. shut (unless r cs (cs ++ c ∷ [])) k t) e ∙ any_added (shuts k t) c cs

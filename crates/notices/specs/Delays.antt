@@ -1,5 +1,5 @@
 -- Links whose arrivals are later.
-use Rattle.std.specs.Prelude.{ℕ, Bool, List, Some, None, Option, ◌==◌}
+use Rattle.std.specs.Prelude.{ℕ, Bool, List, Some, None, Option, unwrap_or, option_map, ◌==◌}
 use Rattle.network.specs.Meaning.{Meaning}
 use Rattle.layers.specs.Retimed.{Arrivals, later}
 use Rattle.notices.specs.declared.notice.Delay.{Delay}
@@ -11,8 +11,7 @@ on_link k d = d.link == k
 
 -- the ticks of a delay, 0 where there is none
 abbrev pub ticks_of : Option Delay → ℕ
-ticks_of None = 0
-ticks_of (Some d) = d.ticks
+ticks_of delay = unwrap_or (option_map (λ d. d.ticks) delay) 0
 
 -- the ticks of the delay on link k
 abbrev pub delay_on : ℕ → List Delay → ℕ

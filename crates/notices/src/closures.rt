@@ -1,8 +1,8 @@
 // The closures that stand, and the arrivals that they leave.
-ghost use Rattle.std.specs.Prelude.{◌≡◌, []};
+ghost use Rattle.std.specs.Prelude.{◌≡◌, [], position};
 ghost use Rattle.notices.specs.Refusals.{refusal_in};
 ghost use Rattle.notices.specs.Calls.{up_refusal, up_after, down_refusal, down_after};
-ghost use Rattle.notices.specs.Closures.{closed};
+ghost use Rattle.notices.specs.Closures.{same, closed};
 ghost use Rattle.notices.specs.Shut.{closed_lawful};
 
 use crate::notice::Closure;
@@ -59,24 +59,30 @@ impl Closures {
     }
 
     // Takes a closure down.
+    #[tactic(auto, using(crate::proofs::Found::taken, crate::proofs::Found::not_taken))]
     pub fn down(&mut self, closure: Closure) -> Result<(), NoticeRefusal>
         ensures reply { refusal_in result ≡ down_refusal self.old closure }
         ensures closures { self.new ≡ down_after self.old closure }
     {
-        let at = self
-            .standing
-            .iter()
-            .position(|standing| *standing == closure)
-            .ok_or(NoticeRefusal::NotStanding)?;
+        let at = self.place_of(closure).ok_or(NoticeRefusal::NotStanding)?;
         self.standing.remove(at);
         Ok(())
+    }
+
+    // Where a closure stands.
+    fn place_of(&self, closure: Closure) -> Option<usize>
+        ensures { result ≡ position (same closure) self.now }
+    {
+        self.standing
+            .iter()
+            .position(|standing| *standing == closure)
     }
 }
 
 impl Retiming for Closures {
-    ghost arrivals = { λ s net. closed s net };
+    ghost arrivals = { closed };
 
-    ghost lawful = { λ x net law. closed_lawful x net law };
+    ghost lawful = { closed_lawful };
 
     // Whoever finds the link shut waits until it opens.
     fn arrival<N: Network>(&self, below: &N, link: u32, tick: u32) -> Option<u32> {

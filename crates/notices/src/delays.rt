@@ -94,9 +94,9 @@ impl Delays {
 }
 
 impl Retiming for Delays {
-    ghost arrivals = { λ s net. delayed s net };
+    ghost arrivals = { delayed };
 
-    ghost lawful = { λ x net law. delayed_lawful x net law };
+    ghost lawful = { delayed_lawful };
 
     fn arrival<N: Network>(&self, below: &N, link: u32, tick: u32) -> Option<u32> {
         let arrival = below.arrival(link, tick)?;
