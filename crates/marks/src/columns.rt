@@ -12,7 +12,8 @@ pub(crate) fn number(column: &[u32], place: u32) -> u32
     place
         .checked_sub(1)
         .and_then(|at| column.get(at as usize))
-        .map_or(0, |number| *number)
+        .copied()
+        .unwrap_or(0)
 }
 
 // A column with 0 for what is no place.

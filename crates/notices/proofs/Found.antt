@@ -10,7 +10,6 @@ use Rattle.notices.specs.Refusals.{take_refusal, take_after}
 
 -- the first that passes stands at i
 pub record FirstAt {X : Type 0} (p : X → Bool) (xs : List X) (i : ℕ) : Type 0 where
-  pub inside : i < length xs
   pub some : list_any p xs ≡ true
   pub off : without p xs ≡ remove xs i
   pub put : (y : X) → replaced p y xs ≡ set xs i y
@@ -65,7 +64,6 @@ module _ {X : Type 0} (p : X → Bool) where
   first_at xs i e =
       let f = found xs i e in
       record {
-        inside = f.1;
         some = list_any-position xs ∙ lt-ltb _ _ (omega (arith, f.0, f.1));
         off = without-position xs ∙ ap (remove xs) (sym f.0);
         put = λ y. replaced-position y xs ∙ ap (λ n. take n xs ++ y ∷ drop (suc n) xs) (sym f.0) ∙ sym (set_split xs i y f.1);
