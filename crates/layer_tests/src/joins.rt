@@ -1,15 +1,15 @@
 // Two networks joined, and two books opened as one.
 use crate::answers::{arrivals, departures, links};
-use records::kind::Kind;
+use books::pair::{PairFault, open_both};
+use books::{RoadBook, Timetable};
 use joined::Joined;
 use network::Network;
-use quay::{ferry_words, words};
+use quay::{changed, ferry_words, words};
+use records::kind::Kind;
 use refusals::fault::{Cause, Fault, Record};
 use refusals::joining::Misfit;
 use std::alloc::{AllocError, Global};
 use std::test::Fail;
-use books::book::Book;
-use books::pair::{PairFault, open_both};
 
 #[test]
 fn the_ferry_is_numbered_on_after_the_roads(rt: HostRuntime) -> Result<(), Fail> {
@@ -28,17 +28,6 @@ fn the_ferry_is_numbered_on_after_the_roads(rt: HostRuntime) -> Result<(), Fail>
         &[(2, [2, 3, 5, 3]), (4, [1, 3, 0, 5]), (5, [2, 3, 0, 0])],
     );
     Ok(())
-}
-
-// Words with some of them changed, each given by its index.
-fn changed(heap: Global, words: &[u32], changes: &[(usize, u32)]) -> Result<Vec<u32>, AllocError> {
-    let mut words = words.to_vec(heap)?;
-    for (at, word) in changes {
-        if let Some(changed) = words.get_mut(*at) {
-            *changed = *word;
-        }
-    }
-    Ok(words)
 }
 
 // The fault that is named of the Quay roads and the ferry with some words changed.
@@ -90,11 +79,8 @@ fn a_fault_names_its_half_or_the_joining(rt: HostRuntime) -> Result<(), Fail> {
 
 #[test]
 fn a_pair_that_does_not_fit_means_the_first_alone(rt: HostRuntime) -> Result<(), Fail> {
-    let first = Book::open(Kind::Road, words().to_vec(rt.alloc())?)?;
-    let second = Book::open(
-        Kind::Timetable,
-        changed(rt.alloc(), &ferry_words(), &[(4, 99)])?,
-    )?;
+    let first = RoadBook::open(words().to_vec(rt.alloc())?)?;
+    let second = Timetable::open(changed(rt.alloc(), &ferry_words(), &[(4, 99)])?)?;
     let pair = Joined { first, second };
     assert_eq!(rt; pair.misfit(), Some(Misfit::Unequal));
     assert_eq!(rt; pair.links(), 4);
@@ -120,14 +106,14 @@ fn loops(heap: Global, links: u32) -> Result<Vec<u32>, AllocError> {
 #[test]
 fn at_most_8192_links_together(rt: HostRuntime) -> Result<(), Fail> {
     let heap = rt.alloc();
-    let first = Book::open(Kind::Road, loops(heap, 4096)?)?;
-    let second = Book::open(Kind::Road, loops(heap, 4096)?)?;
+    let first = RoadBook::open(loops(heap, 4096)?)?;
+    let second = RoadBook::open(loops(heap, 4096)?)?;
     let Ok(both) = Joined::join(first, second) else {
         return Err(Fail::new("refused"));
     };
     assert_eq!(rt; both.links(), 8192);
     assert_eq!(rt; both.arrival(8192, 0), Some(1));
-    let third = Book::open(Kind::Road, loops(heap, 1)?)?;
+    let third = RoadBook::open(loops(heap, 1)?)?;
     match Joined::join(both, third) {
         Ok(_) => Err(Fail::new("joined")),
         Err(unjoined) => {

@@ -1,6 +1,6 @@
 // Closures, delays, free flow and turning.
 use crate::answers::{arrivals, departures, links};
-use records::kind::Kind;
+use books::{RoadBook, Timetable};
 use joined::Joined;
 use layers::free_flow::FreeFlow;
 use layers::over::Over;
@@ -11,11 +11,10 @@ use notices::delays::Delays;
 use notices::notice::{Closure, Delay};
 use quay::{ferry_words, words};
 use std::test::Fail;
-use books::book::Book;
 
 // The Quay roads with these closures.
-fn shut(rt: &HostRuntime, closures: &[Closure]) -> Result<Over<Closures, Book>, Fail> {
-    let below = Book::open(Kind::Road, words().to_vec(rt.alloc())?)?;
+fn shut(rt: &HostRuntime, closures: &[Closure]) -> Result<Over<Closures, RoadBook>, Fail> {
+    let below = RoadBook::open(words().to_vec(rt.alloc())?)?;
     let mut retiming = Closures::new();
     for closure in closures {
         retiming.up(*closure)?;
@@ -62,7 +61,7 @@ fn a_closure_of_every_tick(rt: HostRuntime) -> Result<(), Fail> {
 
 #[test]
 fn the_turned_rows(rt: HostRuntime) -> Result<(), Fail> {
-    let quay = Turned::new(Book::open(Kind::Road, words().to_vec(rt.alloc())?)?);
+    let quay = Turned::new(RoadBook::open(words().to_vec(rt.alloc())?)?);
     arrivals(
         &rt,
         &quay,
@@ -74,7 +73,7 @@ fn the_turned_rows(rt: HostRuntime) -> Result<(), Fail> {
 
 #[test]
 fn a_delay_of_7_and_free_flow_on_link_1(rt: HostRuntime) -> Result<(), Fail> {
-    let below = Book::open(Kind::Road, words().to_vec(rt.alloc())?)?;
+    let below = RoadBook::open(words().to_vec(rt.alloc())?)?;
     let mut retiming = Delays::new();
     retiming.set(Delay { link: 1, ticks: 7 })?;
     let delayed = Over { retiming, below };
@@ -106,7 +105,7 @@ fn a_delay_of_86400_that_just_fits_and_one_that_does_not(rt: HostRuntime) -> Res
     let words = [
         1, 2, 1, 2, 90_000, 1, 0, 0, 1, 1, 2, 0, 0, 1, 1, 0, 3600, 2, 10, 3601, 0,
     ];
-    let below = Book::open(Kind::Road, words.to_vec(rt.alloc())?)?;
+    let below = RoadBook::open(words.to_vec(rt.alloc())?)?;
     let mut retiming = Delays::new();
     retiming.set(Delay {
         link: 1,
@@ -124,9 +123,11 @@ fn a_delay_of_86400_that_just_fits_and_one_that_does_not(rt: HostRuntime) -> Res
 }
 
 // Closures over delays over the Quay roads joined with the ferry, which is link 5: delayed by 7 and shut from 15 to 45.
-fn pile(rt: &HostRuntime) -> Result<Over<Closures, Over<Delays, Joined<Book, Book>>>, Fail> {
-    let first = Book::open(Kind::Road, words().to_vec(rt.alloc())?)?;
-    let second = Book::open(Kind::Timetable, ferry_words().to_vec(rt.alloc())?)?;
+fn pile(
+    rt: &HostRuntime,
+) -> Result<Over<Closures, Over<Delays, Joined<RoadBook, Timetable>>>, Fail> {
+    let first = RoadBook::open(words().to_vec(rt.alloc())?)?;
+    let second = Timetable::open(ferry_words().to_vec(rt.alloc())?)?;
     let mut delays = Delays::new();
     delays.set(Delay { link: 5, ticks: 7 })?;
     let mut closures = Closures::new();

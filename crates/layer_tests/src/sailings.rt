@@ -1,24 +1,19 @@
 // Timetables: sailings in any order, and the checks that they share with road books.
 use crate::answers::{arrivals, departures};
-use records::kind::Kind;
-use quay::{ferry_words, words};
+use books::Timetable;
+use quay::{changed, ferry_words, words};
 use refusals::fault::{Cause, Fault, Record};
 use std::alloc::{AllocError, Global};
 use std::test::Fail;
-use books::book::Book;
 
 // The ferry's words with one changed, by its index: places are from 5, links from 11 and points from 17 on.
-fn changed(heap: Global, at: usize, word: u32) -> Result<Vec<u32>, AllocError> {
-    let mut words = ferry_words().to_vec(heap)?;
-    if let Some(changed) = words.get_mut(at) {
-        *changed = word;
-    }
-    Ok(words)
+fn ferry_with(heap: Global, at: usize, word: u32) -> Result<Vec<u32>, AllocError> {
+    changed(heap, &ferry_words(), &[(at, word)])
 }
 
 #[test]
 fn the_sailings_row(rt: HostRuntime) -> Result<(), Fail> {
-    let ferry = Book::open(Kind::Timetable, ferry_words().to_vec(rt.alloc())?)?;
+    let ferry = Timetable::open(ferry_words().to_vec(rt.alloc())?)?;
     arrivals(
         &rt,
         &ferry,
@@ -36,7 +31,7 @@ fn the_sailings_row(rt: HostRuntime) -> Result<(), Fail> {
 
 #[test]
 fn sailings_may_depart_together_and_arrive_in_any_order(rt: HostRuntime) -> Result<(), Fail> {
-    let ferry = Book::open(Kind::Timetable, changed(rt.alloc(), 23, 20)?)?;
+    let ferry = Timetable::open(ferry_with(rt.alloc(), 23, 20)?)?;
     arrivals(&rt, &ferry, 1, &[(20, Some(30)), (21, None)]);
     Ok(())
 }
@@ -57,7 +52,7 @@ fn each_cause_but_9_names_its_record(rt: HostRuntime) -> Result<(), Fail> {
         (21, 29, Cause::Time { link: 1 }, Record::Point(2)),
     ];
     for (at, word, cause, record) in cases {
-        match Book::open(Kind::Timetable, changed(rt.alloc(), at, word)?) {
+        match Timetable::open(ferry_with(rt.alloc(), at, word)?) {
             Ok(_) => return Err(Fail::new("accepted")),
             Err(refused) => assert_eq!(rt; refused.fault, Fault { cause, at: record }),
         }
@@ -67,7 +62,7 @@ fn each_cause_but_9_names_its_record(rt: HostRuntime) -> Result<(), Fail> {
 
 #[test]
 fn a_road_book_is_no_timetable(rt: HostRuntime) -> Result<(), Fail> {
-    match Book::open(Kind::Timetable, words().to_vec(rt.alloc())?) {
+    match Timetable::open(words().to_vec(rt.alloc())?) {
         Ok(_) => Err(Fail::new("accepted")),
         Err(refused) => {
             assert_eq!(rt; refused.fault.cause, Cause::Kind);

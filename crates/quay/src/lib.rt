@@ -39,7 +39,11 @@ pub fn rows()
 {}
 
 // Words with some of them changed, each given by its index.
-pub fn changed(heap: Global, words: &[u32], changes: &[(usize, u32)]) -> Result<Vec<u32>, AllocError>
+pub fn changed(
+    heap: Global,
+    words: &[u32],
+    changes: &[(usize, u32)],
+) -> Result<Vec<u32>, AllocError>
     ensures { IfOk result (λ v. v.items ≡ changed words.now changes.now) }
 {
     let mut changed = words.to_vec(heap)?;

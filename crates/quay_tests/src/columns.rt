@@ -1,5 +1,5 @@
 // Columns offered over the Quay book, and what they estimate.
-use books::road::RoadBook;
+use books::RoadBook;
 use marks::estimates::{Backward, Forward};
 use marks::marks::Marks;
 use quay::words;

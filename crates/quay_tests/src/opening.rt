@@ -1,20 +1,14 @@
 // The Quay book and damaged copies of it, run through the code.
-use books::road::RoadBook;
+use books::RoadBook;
 use network::Network;
-use quay::words;
+use quay::{changed, words};
 use refusals::fault::{Cause, Fault, Record};
 use std::alloc::{AllocError, Global};
 use std::test::Fail;
 
 // The Quay book with some words changed, each given by its index: places are from 5, links from 11 and points from 35 on.
-fn changed(heap: Global, changes: &[(usize, u32)]) -> Result<Vec<u32>, AllocError> {
-    let mut words = words().to_vec(heap)?;
-    for (at, word) in changes {
-        if let Some(changed) = words.get_mut(*at) {
-            *changed = *word;
-        }
-    }
-    Ok(words)
+fn quay_with(heap: Global, changes: &[(usize, u32)]) -> Result<Vec<u32>, AllocError> {
+    changed(heap, &words(), changes)
 }
 
 // The fault of these words.
@@ -83,7 +77,7 @@ fn each_cause_names_its_record(rt: HostRuntime) -> Result<(), Fail> {
         (36, 16, Cause::Order { link: 1 }, Record::Point(2)),
     ];
     for (at, word, cause, record) in cases {
-        let fault = fault_of(changed(rt.alloc(), &[(at, word)])?);
+        let fault = fault_of(quay_with(rt.alloc(), &[(at, word)])?);
         assert_eq!(rt; fault, Some(Fault { cause, at: record }));
     }
     Ok(())
@@ -91,7 +85,7 @@ fn each_cause_names_its_record(rt: HostRuntime) -> Result<(), Fail> {
 
 #[test]
 fn the_first_of_two_faults_is_named(rt: HostRuntime) -> Result<(), Fail> {
-    let kind_before_limits = changed(rt.alloc(), &[(0, 2), (1, 0)])?;
+    let kind_before_limits = quay_with(rt.alloc(), &[(0, 2), (1, 0)])?;
     assert_eq!(rt;
         fault_of(kind_before_limits),
         Some(Fault {
@@ -99,7 +93,7 @@ fn the_first_of_two_faults_is_named(rt: HostRuntime) -> Result<(), Fail> {
             at: Record::Header,
         })
     );
-    let links_before_points = changed(rt.alloc(), &[(37, 1), (33, 0)])?;
+    let links_before_points = quay_with(rt.alloc(), &[(37, 1), (33, 0)])?;
     assert_eq!(rt;
         fault_of(links_before_points),
         Some(Fault {
@@ -107,7 +101,7 @@ fn the_first_of_two_faults_is_named(rt: HostRuntime) -> Result<(), Fail> {
             at: Record::Link(4),
         })
     );
-    let places_before_links = changed(rt.alloc(), &[(13, 4), (10, 3)])?;
+    let places_before_links = quay_with(rt.alloc(), &[(13, 4), (10, 3)])?;
     assert_eq!(rt;
         fault_of(places_before_links),
         Some(Fault {
@@ -115,7 +109,7 @@ fn the_first_of_two_faults_is_named(rt: HostRuntime) -> Result<(), Fail> {
             at: Record::Place(3),
         })
     );
-    let time_before_order = changed(rt.alloc(), &[(38, 0), (39, 4)])?;
+    let time_before_order = quay_with(rt.alloc(), &[(38, 0), (39, 4)])?;
     assert_eq!(rt;
         fault_of(time_before_order),
         Some(Fault {
@@ -164,7 +158,7 @@ fn a_book_has_at_most_1024_places(rt: HostRuntime) -> Result<(), Fail> {
 // Link 4 takes the chain of link 3, and nobody the points 8 and 9.
 #[test]
 fn links_may_share_points_and_points_may_be_idle(rt: HostRuntime) -> Result<(), Fail> {
-    let shared = changed(rt.alloc(), &[(34, 6), (56, u32::MAX), (57, 0), (59, 0)])?;
+    let shared = quay_with(rt.alloc(), &[(34, 6), (56, u32::MAX), (57, 0), (59, 0)])?;
     let book = RoadBook::open(shared)?;
     assert_eq!(rt; book.arrival(4, 0), Some(30));
     assert_eq!(rt; book.arrival(4, 40), book.arrival(3, 40));

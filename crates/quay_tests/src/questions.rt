@@ -1,5 +1,5 @@
 // Questions over the Quay book.
-use books::road::RoadBook;
+use books::RoadBook;
 use quay::words;
 use queues::scan::ScanQueue;
 use refusals::refusal::Refusal;
