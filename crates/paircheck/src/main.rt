@@ -3,52 +3,24 @@
 #![tactic(auto)]
 
 use anyhow::anyhow;
-use records::kind::Kind;
+use books::book::Book;
+use books::kinds::BookKind;
+use books::pair::{PairFault, open_both};
+use books::roads::Roads;
+use books::sailings::Sailings;
 use network::Network;
 use records::bytes;
+use records::kind::Kind;
 use refusals::fault::{Cause, Fault};
+use sentences::{Departures, LinkOf, Stray, WordCount};
 use std::io::Read;
 use std::{env, fs, io};
-use books::book::Book;
-use books::pair::{PairFault, open_both};
-
-fn name(kind: Kind) -> &'static str {
-    match kind {
-        Kind::Road => "road book",
-        Kind::Timetable => "timetable",
-    }
-}
 
 fn plural(count: u32) -> &'static str {
     if count == 1 { "" } else { "s" }
 }
 
-fn name_stray(rt: &HostRuntime, bytes: usize) -> io::Result<()> {
-    match bytes {
-        0 => Ok(()),
-        1 => println!(rt; "The last byte makes no whole word."),
-        _ => println!(rt; "The last {bytes} bytes make no whole word."),
-    }
-}
-
-fn describe_road(rt: &HostRuntime, book: &Book, link: u32) -> io::Result<()> {
-    let mut ends = None;
-    for (_, point) in book.chain(link) {
-        ends = match ends {
-            None => Some((point, point)),
-            Some((first, _)) => Some((first, point)),
-        };
-    }
-    match ends {
-        None => println!(rt),
-        Some((first, last)) => println!(rt;
-            " Its first departure is at {}, arriving at {}, and its last at {}, arriving at {}.",
-            first.departure, first.arrival, last.departure, last.arrival
-        ),
-    }
-}
-
-fn describe_sailings(rt: &HostRuntime, book: &Book, link: u32) -> io::Result<()> {
+fn describe_sailings<K: BookKind>(rt: &HostRuntime, book: &Book<K>, link: u32) -> io::Result<()> {
     for (_, sailing) in book.chain(link) {
         print!(rt;
             " It sails at {}, arriving at {}.",
@@ -58,8 +30,8 @@ fn describe_sailings(rt: &HostRuntime, book: &Book, link: u32) -> io::Result<()>
     println!(rt)
 }
 
-fn describe(rt: &HostRuntime, book: &Book) -> io::Result<()> {
-    let kind = name(book.kind());
+fn describe<K: BookKind>(rt: &HostRuntime, book: &Book<K>) -> io::Result<()> {
+    let kind = book.kind();
     let places = book.places();
     let links = book.links();
     let points = book.points();
@@ -71,56 +43,52 @@ fn describe(rt: &HostRuntime, book: &Book) -> io::Result<()> {
         plural(points)
     )?;
     for link in 1..=links {
-        let tail = book.tail(link);
-        let head = book.head(link);
-        let floor = book.floor(link);
-        print!(rt;
-            "Link {link} leads from place {tail} to place {head} and takes at least {floor} ticks."
-        )?;
-        match book.kind() {
-            Kind::Road => describe_road(rt, book, link)?,
+        print!(rt; "{}", LinkOf { book, link })?;
+        match kind {
+            Kind::Road => println!(rt; "{}", Departures(book.ends(link)))?,
             Kind::Timetable => describe_sailings(rt, book, link)?,
         }
     }
     Ok(())
 }
 
-fn explain(rt: &HostRuntime, kind: Kind, fault: Fault, words: &[u32]) -> io::Result<()> {
-    let name = name(kind);
+fn explain<K: BookKind>(rt: &HostRuntime, fault: Fault, words: &[u32]) -> io::Result<()> {
+    let kind = K::kind();
     let cause = fault.cause;
     let number = cause.number();
     let record = fault.at;
     if cause == Cause::Kind {
         return println!(rt;
-            "The {name} is refused for cause {number}: its kind is another than the one asked for."
+            "The {kind} is refused for cause {number}: its kind is another than the one asked for."
         );
     }
-    println!(rt; "The {name} is refused for cause {number}, {record}: {cause}.")?;
+    println!(rt; "The {kind} is refused for cause {number}, {record}: {cause}.")?;
     if cause != Cause::Length {
         return Ok(());
     }
-    let count = words.len();
-    match Book::header(kind, words) {
-        Err(_) => println!(rt; "There are {count} words, and the header alone has five."),
-        Ok(header) => {
-            let size = header.size();
-            println!(rt; "There are {count} words, and the header gives {size}.")
+    let count = WordCount {
+        count: words.len(),
+        header: Book::<K>::header(words),
+    };
+    println!(rt; "{count}")
+}
+
+fn check<K: BookKind>(rt: &HostRuntime, words: Vec<u32>) -> anyhow::Result<()> {
+    match Book::<K>::open(words) {
+        Ok(book) => Ok(describe(rt, &book)?),
+        Err(refused) => {
+            explain::<K>(rt, refused.fault, refused.words.as_slice())?;
+            Err(anyhow!("the book is refused"))
         }
     }
 }
 
 // One book, of the kind that its first word says; a word that says none is taken for a road book's.
 fn check_one(rt: &HostRuntime, words: Vec<u32>) -> anyhow::Result<()> {
-    let kind = match words.first() {
-        Some(2) => Kind::Timetable,
-        _ => Kind::Road,
-    };
-    match Book::open(kind, words) {
-        Ok(book) => Ok(describe(rt, &book)?),
-        Err(refused) => {
-            explain(rt, kind, refused.fault, refused.words.as_slice())?;
-            Err(anyhow!("the book is refused"))
-        }
+    let named = words.first().and_then(|word| Kind::try_from(*word).ok());
+    match named.unwrap_or(Kind::Road) {
+        Kind::Road => check::<Roads>(rt, words),
+        Kind::Timetable => check::<Sailings>(rt, words),
     }
 }
 
@@ -140,8 +108,8 @@ fn check_both(rt: &HostRuntime, roads: Vec<u32>, ferries: Vec<u32>) -> anyhow::R
     };
     match refused.fault {
         PairFault::Half { half, fault } => match half {
-            Kind::Road => explain(rt, half, fault, refused.roads.as_slice())?,
-            Kind::Timetable => explain(rt, half, fault, refused.ferries.as_slice())?,
+            Kind::Road => explain::<Roads>(rt, fault, refused.roads.as_slice())?,
+            Kind::Timetable => explain::<Sailings>(rt, fault, refused.ferries.as_slice())?,
         },
         PairFault::Joining(misfit) => {
             let number = misfit.number();
@@ -153,9 +121,9 @@ fn check_both(rt: &HostRuntime, roads: Vec<u32>, ferries: Vec<u32>) -> anyhow::R
 
 // The whole words of an input; up to three bytes that are left are named and counted.
 fn whole_words(rt: &HostRuntime, input: &[u8]) -> io::Result<(Vec<u32>, usize)> {
-    let left = input.len() % 4;
-    name_stray(rt, left)?;
-    Ok((bytes::words(rt.alloc(), input)?, left))
+    let stray = input.len() % 4;
+    print!(rt; "{}", Stray(stray))?;
+    Ok((bytes::words(rt.alloc(), input)?, stray))
 }
 
 fn run(rt: &HostRuntime) -> anyhow::Result<()> {
@@ -163,27 +131,27 @@ fn run(rt: &HostRuntime) -> anyhow::Result<()> {
     let _program = args.next();
     let first = args.next();
     let second = args.next();
-    let left = match (first, second) {
+    let stray = match (first, second) {
         (None, _) => {
             let mut input = Vec::new(rt.alloc());
             rt.stdin().read_to_end(&mut input)?;
-            let (words, left) = whole_words(rt, input.as_slice())?;
+            let (words, stray) = whole_words(rt, input.as_slice())?;
             check_one(rt, words)?;
-            left
+            stray
         }
         (Some(path), None) => {
-            let (words, left) = whole_words(rt, fs::read(rt, path.as_str())?.as_slice())?;
+            let (words, stray) = whole_words(rt, fs::read(rt, path.as_str())?.as_slice())?;
             check_one(rt, words)?;
-            left
+            stray
         }
         (Some(roads), Some(ferries)) => {
-            let (roads, left) = whole_words(rt, fs::read(rt, roads.as_str())?.as_slice())?;
+            let (roads, stray) = whole_words(rt, fs::read(rt, roads.as_str())?.as_slice())?;
             let (ferries, more) = whole_words(rt, fs::read(rt, ferries.as_str())?.as_slice())?;
             check_both(rt, roads, ferries)?;
-            left.max(more)
+            stray.max(more)
         }
     };
-    if left > 0 {
+    if stray > 0 {
         return Err(anyhow!("the input does not end with the book"));
     }
     Ok(())

@@ -1,0 +1,80 @@
+// What is said of a book, as values that print themselves.
+#![tactic(auto)]
+
+use books::book::Book;
+use books::kinds::BookKind;
+use network::Network;
+use records::layout::{Header, Point};
+use refusals::fault::Fault;
+use std::fmt;
+
+// A link's ends and its floor.
+#[derive(Clone, Copy)]
+pub struct LinkOf<'a, K: BookKind> {
+    pub book: &'a Book<K>,
+    pub link: u32,
+}
+
+impl<K: BookKind> fmt::Display for LinkOf<'_, K> {
+    fn fmt<W: fmt::Write>(&self, f: &mut fmt::Formatter<W>) -> fmt::Result {
+        let link = self.link;
+        let tail = self.book.tail(link);
+        let head = self.book.head(link);
+        let floor = self.book.floor(link);
+        write!(
+            f,
+            "Link {link} leads from place {tail} to place {head} and takes at least {floor} ticks."
+        )
+    }
+}
+
+// The first and the last departure of a link, if it has any.
+#[derive(Clone, Copy)]
+pub struct Departures(pub Option<(Point, Point)>);
+
+impl fmt::Display for Departures {
+    fn fmt<W: fmt::Write>(&self, f: &mut fmt::Formatter<W>) -> fmt::Result {
+        match self.0 {
+            None => Ok(()),
+            Some((first, last)) => write!(
+                f,
+                " Its first departure is at {}, arriving at {}, and its last at {}, arriving at {}.",
+                first.departure, first.arrival, last.departure, last.arrival
+            ),
+        }
+    }
+}
+
+// How many bytes at the end of an input make no whole word.
+#[derive(Clone, Copy)]
+pub struct Stray(pub usize);
+
+impl fmt::Display for Stray {
+    fn fmt<W: fmt::Write>(&self, f: &mut fmt::Formatter<W>) -> fmt::Result {
+        match self.0 {
+            0 => Ok(()),
+            1 => writeln!(f, "The last byte makes no whole word."),
+            bytes => writeln!(f, "The last {bytes} bytes make no whole word."),
+        }
+    }
+}
+
+// How many words there are of a book that has a wrong number of them, and how many its header gives.
+#[derive(Clone, Copy)]
+pub struct WordCount {
+    pub count: usize,
+    pub header: Result<Header, Fault>,
+}
+
+impl fmt::Display for WordCount {
+    fn fmt<W: fmt::Write>(&self, f: &mut fmt::Formatter<W>) -> fmt::Result {
+        let count = self.count;
+        match self.header {
+            Err(_) => write!(f, "There are {count} words, and the header alone has five."),
+            Ok(header) => {
+                let size = header.size();
+                write!(f, "There are {count} words, and the header gives {size}.")
+            }
+        }
+    }
+}
