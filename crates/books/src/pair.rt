@@ -30,6 +30,7 @@ pub fn open_both(
 ) -> Result<Joined<RoadBook, Timetable>, RefusedPair>
     ensures { OpenedBoth roads ferries result }
 {
+    // By match, since `map_err` would take the other book's words on the path that goes on, too.
     let roads = match RoadBook::open(roads) {
         Ok(book) => book,
         Err(Refused { fault, words }) => {

@@ -62,13 +62,10 @@ impl<A: Network, B: Network> Joined<A, B> {
         ensures { result ≡ second_link (A.Network.meaning self.now.first) (B.Network.meaning self.now.second) link }
     {
         let links = self.first.links();
-        if link <= links {
+        if link <= links || self.misfit().is_some() {
             return None;
         }
-        match self.misfit() {
-            None => Some(link - links),
-            Some(_) => None,
-        }
+        Some(link - links)
     }
 
     // The number here of a link of the second; 0 for no link.
@@ -76,13 +73,10 @@ impl<A: Network, B: Network> Joined<A, B> {
         requires { link ≤ (B.Network.meaning self.now.second).links }
         ensures { result ≡ numbered_on (A.Network.meaning self.now.first) (B.Network.meaning self.now.second) link }
     {
-        if link == 0 {
+        if link == 0 || self.misfit().is_some() {
             return 0;
         }
-        match self.misfit() {
-            None => self.first.links() + link,
-            Some(_) => 0,
-        }
+        self.first.links() + link
     }
 }
 
@@ -96,10 +90,10 @@ impl<A: Network, B: Network> Network for Joined<A, B> {
     }
 
     fn links(&self) -> u32 {
-        match self.misfit() {
-            None => self.first.links() + self.second.links(),
-            Some(_) => self.first.links(),
+        if self.misfit().is_some() {
+            return self.first.links();
         }
+        self.first.links() + self.second.links()
     }
 
     fn last_tick(&self) -> u32 {

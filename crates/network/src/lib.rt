@@ -11,7 +11,8 @@ ghost use Rattle.network.specs.Links.{first_out, next_out, first_in, next_in, Lo
 mod borrowed;
 
 // A network. Each answer is fixed by the meaning for every number that a caller can pass: for a place, link or tick that isn't
-// there, an arrival or a latest departure is none and every other answer is 0.
+// there, an arrival or a latest departure is none and every other answer is 0. That no link is left is said by 0 too, and by no
+// Option: books say it so, and every network answers as a book does.
 pub trait Network {
     ghost meaning: { Self → Meaning };
 

@@ -10,7 +10,8 @@ use network::among;
 use refusals::fault::{Cause, Fault, Record};
 
 // What is looked at: each link and each point by itself, the chains of links at each place and at each link, and the points
-// along each link's chain.
+// along each link's chain. An enum and no closures: the order of the checks is a list that the caller hands in and that the definition
+// of the first fault names, and a list of closures can't be named.
 #[derive(Clone, Copy)]
 pub enum Check {
     Links,
