@@ -62,12 +62,9 @@ impl Records {
     pub(crate) fn lowest(&self, end: End, place: u32, after: u32) -> u32
         ensures { result ≡ lowest_after (book_of self.now) end place after }
     {
-        for k in after..self.header.links {
-            if self.link(k + 1).end(end) == place {
-                return k + 1;
-            }
-        }
-        0
+        (after..self.header.links)
+            .find(|below| self.link(below + 1).end(end) == place)
+            .map_or(0, |below| below + 1)
     }
 }
 
