@@ -1,3 +1,1 @@
 mod Pairs
-mod Tables
-mod Vecs

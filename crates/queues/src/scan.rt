@@ -1,7 +1,7 @@
 // The queue that scans a table of keys: the table's first entry is for place 1, and so on.
 ghost use Rattle.std.specs.Prelude.{◌≡◌, length, vec_len};
-ghost use Rattle.queues.specs.Queue.{Empty, lowered, Offered, BestOf, Taken};
-ghost use Rattle.queues.specs.Scan.{held_in, better};
+ghost use Rattle.queues.specs.Queue.{Empty, Offered, BestOf, Taken};
+ghost use Rattle.queues.specs.Scan.{held_in};
 
 use crate::Queue;
 
@@ -54,19 +54,7 @@ impl Queue for ScanQueue {
 fn empty(keys: &mut [Option<u32>])
     ensures { Empty (held_in keys.new) }
 {
-    for key in keys.iter_mut() {
-        *key = None;
-    }
-}
-
-// The key of a place that is offered with a key, where it had an old key or none.
-fn lowered(old: Option<u32>, key: u32) -> u32
-    ensures { result ≡ lowered old key }
-{
-    match old {
-        None => key,
-        Some(old) => old.min(key),
-    }
+    keys.fill(None);
 }
 
 // Adds a place to a table or lowers its key, if the table has an entry for it.
@@ -77,7 +65,7 @@ fn lower(keys: &mut [Option<u32>], place: u32, key: u32) -> bool
         return false;
     }
     let at = place as usize - 1;
-    keys[at] = Some(lowered(keys[at], key));
+    keys[at] = Some(keys[at].map_or(key, |old| old.min(key)));
     true
 }
 
@@ -85,34 +73,17 @@ fn lower(keys: &mut [Option<u32>], place: u32, key: u32) -> bool
 fn take_best(keys: &mut [Option<u32>]) -> Option<(u32, u32)>
     ensures { Taken (held_in keys.old) (held_in keys.new) result }
 {
-    let found = best(keys);
-    if let Some((_, place)) = found {
-        keys[place as usize - 1] = None;
-    }
-    found
+    let (key, place) = best(keys)?;
+    keys[place as usize - 1] = None;
+    Some((key, place))
 }
 
 // The pair with the least key in a table, and among equal keys the one with the lowest place.
 fn best(keys: &[Option<u32>]) -> Option<(u32, u32)>
     ensures { BestOf (held_in keys.now) result }
 {
-    let count = keys.len().min(u32::MAX as usize) as u32;
-    let mut found = None;
-    for i in 0..count {
-        found = better(found, keys[i as usize], i + 1);
-    }
-    found
-}
-
-// The better of the best pair so far and the pair of a higher place.
-fn better(found: Option<(u32, u32)>, key: Option<u32>, place: u32) -> Option<(u32, u32)>
-    ensures { result ≡ better found key place }
-{
-    let Some(key) = key else {
-        return found;
-    };
-    match found {
-        Some((least, _)) if least <= key => found,
-        _ => Some((key, place)),
-    }
+    (1..=u32::MAX)
+        .zip(keys)
+        .filter_map(|(place, key)| key.map(|key| (key, place)))
+        .min()
 }

@@ -13,7 +13,7 @@ use crate::relax::search;
 use crate::roads::{Order, count_roads, write_roads};
 use crate::work::Work;
 use layers::turned::Turned;
-use network::{Lent, Network, among};
+use network::{Network, among};
 use queues::Queue;
 use refusals::refusal::Refusal;
 
@@ -170,7 +170,7 @@ pub fn arrive_by<N: Network, E: Estimate, Q: Queue>(
         destination: question.start,
         tick: counted_back(last, question.tick),
     };
-    let turned = Turned::new(Lent::new(net));
+    let turned = Turned::new(net);
     let reply = ask(
         &turned,
         estimate,

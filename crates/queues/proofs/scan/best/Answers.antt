@@ -1,11 +1,16 @@
-use Rattle.std.proofs.Common.{sym, subst, arith}
-use Rattle.queues.specs.Queue.{BestOf}
-use Rattle.queues.specs.Scan.{key_in}
-use Rattle.queues.proofs.Tables.{scan_more, scan_all}
+use Rattle.std.proofs.Common.{◌-◌, refl, arith, rules, tests}
+use Rattle.std.proofs.lemmas.Iterator.{YieldsList-from_slice, YieldsList-from_zip}
+use Rattle.std.proofs.lemmas.Iterator.Consumers.{YieldsList-at, YieldsList-from_filter_map, reduce_from_yields_List}
+use Rattle.std.specs.Range.{range_inclusive_left}
+use Rattle.queues.proofs.Pairs.{lesser, turned, least_best, inclusive_left, YieldsList-from_inclusive}
 use Rattle.queues.proofs.scan.best.Goals as goal
 
-pub loop-i-preserved : goal.loop-i-preserved
-loop-i-preserved c = subst (BestOf (key_in c.args.keys.now _)) (sym c.better-found.ensures) (scan_more _ _ _ c.loop-i.invariant)
-
 pub returns : goal.returns
-returns c = scan_all _ c.loop-i.i _ (omega arith) c.loop-i.invariant
+returns c =
+    let range = c.new.result in
+    least_best (range_inclusive_left (λ x y. y - x) range) c.args.keys.now _ (inclusive_left range 1 4294967295 c.new.ensures.start c.new.ensures.end c.new.ensures.exhausted (omega arith))
+    (reduce_from_yields_List lesser _ _ c.min.ensures.ran
+    (YieldsList-from_filter_map _ turned
+    (YieldsList-at c.filter_map.ensures.source
+    (YieldsList-from_zip (YieldsList-at c.zip.ensures.first (YieldsList-from_inclusive 1 _ c.new.ensures.start refl)) (YieldsList-from_slice c.args.keys.now (cc))))
+    c.filter_map.ensures.closure (λ x r q k. search (rules, tests))))

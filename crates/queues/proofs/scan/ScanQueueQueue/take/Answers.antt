@@ -1,12 +1,10 @@
-use Rattle.std.proofs.Common.{refl, arith}
-use Rattle.queues.specs.Queue.{Taken}
-use Rattle.queues.specs.Scan.{held_in}
-use Rattle.queues.proofs.Vecs.{lent}
+use Rattle.std.proofs.Common.{length, ap, arith}
+use Rattle.std.proofs.lemmas.List.{with_items_is}
 use Rattle.queues.proofs.scan.ScanQueueQueue.take.Goals as goal
 
-pub returns : goal.returns
-returns c =
-    record {
-      capacity = refl;
-      taken = lent c.args.self.now.keys _ c.take_best.new.keys c.deref_mut.ensures.value (omega arith) (λ _ before after. Taken (held_in before) (held_in after) c.take_best.result) c.take_best.ensures;
-    }
+pub returns-clause-taken : goal.returns-clause-taken
+returns-clause-taken c =
+    let v = c.args.self.now.keys in
+    let lent = c.deref_mut.ensures.value in
+    let e = with_items_is v c.take_best.new.keys (omega (arith, v.ok.0, ap length lent)) in
+    rw (← e, lent) at c.take_best.ensures
