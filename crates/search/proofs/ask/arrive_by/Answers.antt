@@ -8,6 +8,6 @@ returns g c = record {
   asked =
       asked_by (g.N.Network.meaning c.args.net.now) (g.met.N.Network.lawful c.args.net.now) (g.E.Estimate.ahead c.args.estimate.now) c.args.question.start c.args.question.destination c.args.question.tick _ _ _ _ _ _ _ _
       _ c.last_tick-last.result c.counted_back.result c.ask-reply.result c.turned_reply.result
-      (ap (λ x. turned (g.N.Network.meaning x.to.now)) c.new-turned.ensures ∙ ap (λ n. turned (g.N.Network.meaning n)) c.new.ensures) c.last_tick-last.ensures c.counted_back.ensures c.turned_reply.ensures c.ask-reply.ensures.asked;
+      (ap (λ x. turned (g.N.Network.meaning x.now)) c.new-turned.ensures) c.last_tick-last.ensures c.counted_back.ensures c.turned_reply.ensures c.ask-reply.ensures.asked;
   capacity = c.ask-reply.ensures.capacity;
 }
