@@ -1,1 +1,2 @@
+pub mod Inclusive
 mod Pairs

@@ -1,5 +1,5 @@
 -- No journey that counts is earlier than the label of its place.
-use Rattle.std.proofs.Common.{◌≡◌, ℕ, ◌+◌, ◌≤◌, List, Some, subst, inl, inr, arith}
+use Rattle.std.proofs.Common.{◌≡◌, ℕ, ◌+◌, ◌≤◌, List, Some, Option, subst, inl, inr, arith}
 use Rattle.network.specs.Meaning.{Meaning, IsLink}
 use Rattle.network.specs.Laws.{Laws}
 use Rattle.journeys.specs.Journey.{Journey}
@@ -16,7 +16,7 @@ module _ (net : Meaning) (h : ℕ → ℕ) (laws : Laws net) (even : Consistent 
   rises stay = omega arith
   rises (ride {k} c y l tc cl e j) = omega (arith, (within net laws k c y l cl e).0, even k l, rises j)
 
-  module _ (bound : ℕ) (cells : List ℕ) (settled : Settled net h bound cells) where
+  module _ (bound : Option ℕ) (cells : List ℕ) (settled : Settled net h bound cells) where
     -- a link entered at or after the label of its tail comes to its head at or after the label of that
     over : (k x c y : ℕ) → IsLink net k → x ≤ c → c ≤ net.last → net.arrival k c ≡ Some y → Within bound (x + h (net.tail k)) → By (label cells (net.tail k)) x → By (label cells (net.head k)) y
     over k x c y l xc cl e w here = elim (label_cases (label cells (net.tail k))) [

@@ -1,6 +1,6 @@
 -- The refusals of a question before the search, test by test.
-use Rattle.std.proofs.Common.{◌≡◌, ℕ, ◌+◌, ◌-◌, ◌<◌, ◌≤◌, Bool, true, false, cond, leb, List, Some, None, Err, Option, sym, refl, ap, ◌∙◌, ⊎_elim, arith}
-use Rattle.std.proofs.lemmas.Bool.{cond-true, cond-false, cases_lt, le-leb, lt-leb, leb-true}
+use Rattle.std.proofs.Common.{◌≡◌, ℕ, ◌+◌, ◌-◌, ◌≤◌, Bool, true, false, cond, leb, List, Some, None, Err, Option, sym, refl, ap, ◌∙◌, ⊎_elim, arith}
+use Rattle.std.proofs.lemmas.Bool.{cases_lt, le-leb, lt-leb, leb-true}
 use Rattle.network.specs.Meaning.{Meaning, Among, among}
 use Rattle.network.proofs.Ranges.{among_true}
 use Rattle.journeys.specs.Turned.{turned}
@@ -8,44 +8,6 @@ use Rattle.refusals.specs.declared.refusal.Refusal.{Refusal}
 use Rattle.refusals.specs.declared.refusal.Refusal.TheVariants.{NoPlace, NoTick, ShortTable, ShortQueue}
 use Rattle.search.specs.Labels.{Untouched, Wiped}
 use Rattle.search.specs.Question.{unless, refusal_of, back_tick, Reply, Asked}
-
-passed : (test : Bool) (r : Refusal) (after : Option Refusal) → test ≡ true → unless test r after ≡ after
-passed test r after e = cond-true test after (Some r) e
-
-caught : (test : Bool) (r : Refusal) (after : Option Refusal) → test ≡ false → unless test r after ≡ Some r
-caught test r after e = cond-false test after (Some r) e
-
-module _ (net : Meaning) (table capacity s d t : ℕ) where
-  pub no_start : among s net.places ≡ false → refusal_of net table capacity s d t ≡ Some NoPlace
-  unfolding refusal_of
-  no_start e = caught _ NoPlace _ e
-
-  module _ (start : among s net.places ≡ true) where
-    pub no_destination : among d net.places ≡ false → refusal_of net table capacity s d t ≡ Some NoPlace
-    unfolding refusal_of
-    no_destination e = passed _ NoPlace _ start ∙ caught _ NoPlace _ e
-
-    module _ (destination : among d net.places ≡ true) where
-      pub no_tick : net.last < t → refusal_of net table capacity s d t ≡ Some NoTick
-      unfolding refusal_of
-      no_tick l = passed _ NoPlace _ start ∙ (passed _ NoPlace _ destination ∙ caught _ NoTick _ (lt-leb t net.last l))
-
-      module _ (tick : t ≤ net.last) where
-        on : unless (leb t net.last) NoTick (unless (leb net.places table) ShortTable (unless (leb net.places capacity) ShortQueue None)) ≡ unless (leb net.places table) ShortTable (unless (leb net.places capacity) ShortQueue None)
-        on = passed _ NoTick _ (le-leb t net.last tick)
-
-        pub short_table : table < net.places → refusal_of net table capacity s d t ≡ Some ShortTable
-        unfolding refusal_of
-        short_table l = passed _ NoPlace _ start ∙ (passed _ NoPlace _ destination ∙ (on ∙ caught _ ShortTable _ (lt-leb net.places table l)))
-
-        module _ (long : net.places ≤ table) where
-          pub short_queue : capacity < net.places → refusal_of net table capacity s d t ≡ Some ShortQueue
-          unfolding refusal_of
-          short_queue l = passed _ NoPlace _ start ∙ (passed _ NoPlace _ destination ∙ (on ∙ (passed _ ShortTable _ (le-leb net.places table long) ∙ caught _ ShortQueue None (lt-leb net.places capacity l))))
-
-          pub no_refusal : net.places ≤ capacity → refusal_of net table capacity s d t ≡ None
-          unfolding refusal_of
-          no_refusal l = passed _ NoPlace _ start ∙ (passed _ NoPlace _ destination ∙ (on ∙ (passed _ ShortTable _ (le-leb net.places table long) ∙ passed _ ShortQueue None (le-leb net.places capacity l))))
 
 -- what holds where a question is not refused
 pub record Admitted (net : Meaning) (table capacity s d t : ℕ) : Type 0 where

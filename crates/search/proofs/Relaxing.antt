@@ -10,11 +10,8 @@ use Rattle.journeys.specs.Journey.Journey.{stay, ride}
 use Rattle.journeys.proofs.Rides.{onto, within}
 use Rattle.search.specs.Labels.{label}
 use Rattle.search.specs.Steps.{Before, Relaxed, State, Step, Kept, Better, Walking, rank, weight}
+use Rattle.search.proofs.Tables.{some_none}
 use Rattle.search.proofs.Walks.{first_lowest, next_lowest, lowest_link, lowest_none}
-
--- an option isn't both
-pub some_none : {A : Type 0} {o : Option A} {x : A} → o ≡ Some x → o ≡ None → ⊥
-some_none p q = let z : ◌≡◌ {A = ℕ} 0 1 = cc in omega arith
 
 -- an arrival is at most the greatest tick
 pub arrives_soon : {net : Meaning} → Laws net → (k t a : ℕ) → IsLink net k → t ≤ net.last → Some a ≡ net.arrival k t → a ≤ 604800
@@ -150,8 +147,9 @@ module _ {net : Meaning} {h : ℕ → ℕ} {p a : ℕ} where
       }
 
   -- a walk goes on from a link that is relaxed
-  pub walk_more : {k at : ℕ} {before cells cells' : List ℕ} {held-before held held' : ℕ → Option ℕ} → Laws net → a ≤ net.last → Walking net h p a k before cells held-before held → 1 ≤ k → Step net h k a cells cells' held held' → at ≡ next net net.tail k → Walking net h p a at before cells' held-before held'
-  walk_more {k} {at} laws in_time was l did e =
+  pub walk_more : {k here at : ℕ} {before cells cells' : List ℕ} {held-before held held' : ℕ → Option ℕ} → Laws net → a ≤ net.last → Walking net h p a here before cells held-before held → k ≡ here → 1 ≤ k → Step net h k a cells cells' held held' → at ≡ next net net.tail k → Walking net h p a at before cells' held-before held'
+  walk_more {k} {here} {at} {before} {cells} {cells'} {held-before} {held} laws in_time came from l did e =
+      let was = subst (λ x. Walking net h p a x before cells held-before held) (sym from) came in
       let (i, tail) = was.link l in
       let low = subst (λ q. IsLowest net.tail q k net.links at) tail (subst (IsLowest net.tail (net.tail k) k net.links) (sym e) (next_lowest net net.tail k i)) in
       let kept = step_tail laws did i in_time tail was.tail_label in

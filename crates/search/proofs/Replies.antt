@@ -1,6 +1,6 @@
 -- From what a search gives to what a question is answered.
-use Rattle.std.proofs.Common.{◌≡◌, ℕ, ◌-◌, ◌≤◌, ◌↔◌, List, reverse, take, drop, Some, None, Ok, Err, Option, sym, refl, ap, ◌∙◌, subst, arith}
-use Rattle.std.proofs.lemmas.List.{reverse-reverse, length-reverse}
+use Rattle.std.proofs.Common.{◌≡◌, ℕ, ◌-◌, ◌≤◌, ◌↔◌, List, ◌++◌, reverse, length, take, drop, Some, None, Ok, Err, Option, sym, refl, ap, ◌∙◌, subst, arith, length-append, length-drop}
+use Rattle.std.proofs.lemmas.List.{reverse-reverse, length-reverse, length-take, take_at, drop_at}
 use Rattle.std.proofs.lemmas.Bool.{cond-true, le-leb}
 use Rattle.network.specs.Meaning.{Meaning, IsPlace}
 use Rattle.network.specs.Laws.{Laws, NotBefore}
@@ -15,7 +15,6 @@ use Rattle.journeys.proofs.Turning.{turned_laws}
 use Rattle.journeys.proofs.Starts.{start_exact, arrive_by}
 use Rattle.refusals.specs.declared.refusal.Refusal.TheVariants.{NoPlace, NoTick, ShortTable, ShortQueue, ShortList}
 use Rattle.search.specs.declared.question.Answer.TheVariants.{Found, NoWay as CutOff}
-use Rattle.search.specs.declared.roads.Order.TheVariants.{AsFound, Reversed}
 use Rattle.search.specs.Counting.{Count, TakenPlace}
 use Rattle.search.specs.Estimate.{Fit}
 use Rattle.search.specs.Question.{Reply, Searched, Departs, Arrives, Latest, Asked, refusal_of, back_tick, counted_back, filled}
@@ -28,14 +27,16 @@ module _ (net : Meaning) (law : Laws net) (h : ℕ → ℕ) (s d t : ℕ) (start
       let one = one_list net law s t d a start tick (sym ((computed net law s t d (Some a) start tick).0 first)) in
       subst (λ r. Drive net s t r d a) (sym (one.only roads found)) one.driven
 
-  pub departs : (reply : Reply) → Searched net h Reversed s d t list reply → Departs net h s d t list reply
-  departs (Ok (Found a roads n)) w = (w.0, record { earliest = w.1.first; one_list = w.1.back; driven = driven a (take roads list) w.1.first w.1.back; taken = w.1.taken })
-  departs (Ok (CutOff n)) w = w
-  departs (Err (ShortList needed)) (reached, (back, found, count), short) = (reached, (reverse back, subst (Back net (earliest net s t) s d) (sym (reverse-reverse back)) found, count ∙ sym (length-reverse back)), short)
-  departs (Err NoPlace) w = w
-  departs (Err NoTick) w = w
-  departs (Err ShortTable) w = w
-  departs (Err ShortQueue) w = w
+  pub departs : (found : List ℕ) → length list ≡ length found → (reply : Reply) → take (filled reply) list ≡ reverse (take (filled reply) found) → Searched net h s d t found reply → Departs net h s d t list reply
+  departs found long (Ok (Found a roads n)) turned w =
+      let one : RoadList net s t d (take roads list) = subst (Back net (earliest net s t) s d) (sym (ap reverse turned ∙ reverse-reverse (take roads found))) w.1.back in
+      (omega (arith, w.0), record { earliest = w.1.first; one_list = one; driven = driven a (take roads list) w.1.first one; taken = w.1.taken })
+  departs found long (Ok (CutOff n)) turned w = w
+  departs found long (Err (ShortList needed)) turned (reached, (back, by, count), short) = (reached, (reverse back, subst (Back net (earliest net s t) s d) (sym (reverse-reverse back)) by, count ∙ sym (length-reverse back)), omega (arith, short))
+  departs found long (Err NoPlace) turned w = w
+  departs found long (Err NoTick) turned w = w
+  departs found long (Err ShortTable) turned w = w
+  departs found long (Err ShortQueue) turned w = w
 
 module _ (net : Meaning) (law : Laws net) (h : ℕ → ℕ) (s d y : ℕ) (start : IsPlace net s) (destination : IsPlace net d) (deadline : y ≤ net.last) (list : List ℕ) where
   -- the latest departure by the earliest arrival of the turned search
@@ -45,7 +46,7 @@ module _ (net : Meaning) (law : Laws net) (h : ℕ → ℕ) (s d y : ℕ) (start
   latest : (o : Option ℕ) → Earliest (turned net) d (net.last - y) s o → Latest net s d y (less net.last o)
   latest o e x l = subst (λ z. CanReach net s x d y ↔ NotBefore x z) (latest_from o e) (start_exact net law s d y destination deadline x l)
 
-  pub arrives : (reply : Reply) → Searched (turned net) h AsFound d s (net.last - y) list reply → Arrives net h s d y list (counted_back net.last reply)
+  pub arrives : (reply : Reply) → Searched (turned net) h d s (net.last - y) list reply → Arrives net h s d y list (counted_back net.last reply)
   arrives (Ok (Found a roads n)) w =
       let late = (journey_within (turned net) (turned_laws net law) w.1.first.reached.1 (omega arith)).1 in
       let e : a ≡ net.last - (net.last - a) = omega arith in (
@@ -64,6 +65,37 @@ module _ (net : Meaning) (law : Laws net) (h : ℕ → ℕ) (s d y : ℕ) (start
   arrives (Err ShortTable) w = w
   arrives (Err ShortQueue) w = w
 
+-- a depart-at question, by the list as its roads were found and as they are turned round
+module _ (net : Meaning) (law : Laws net) (h : ℕ → ℕ) (s d t table capacity : ℕ) (list found cells cells' : List ℕ) (held held' : ℕ → Option ℕ) (reply : Reply) where
+  abbrev Forward : Reply → Type 0
+  Forward told = Asked (refusal_of net table capacity s d t) net.places (Fit net h d) (Searched net h s d t found) list found cells cells' held held' told
+
+  abbrev Turned : List ℕ → Reply → Type 0
+  Turned list' told = Asked (refusal_of net table capacity s d t) net.places (Fit net h d) (Departs net h s d t list') list list' cells cells' held held' told
+
+  asked_turned : (list' : List ℕ) → length list' ≡ length found → take (filled reply) list' ≡ reverse (take (filled reply) found) → drop (filled reply) list' ≡ drop (filled reply) found → Forward reply → Turned list' reply
+  asked_turned list' long turned rest a =
+      record {
+        refusal = a.refusal;
+        untouched = a.untouched;
+        told = λ n fit. let m = admitted net table capacity s d t n in departs net law h s d t m.start m.tick list' found long reply turned (a.told n fit);
+        wiped = a.wiped;
+        empty = a.empty;
+        rest = rest ∙ a.rest;
+      }
+
+  pub asked_found : (front : List ℕ) (n : ℕ) → n ≡ filled reply → n ≤ length found → front ≡ reverse (take n found) → (told : Reply) → told ≡ reply → Forward told → Turned (front ++ drop n found) reply
+  asked_found front n e l turned told et a =
+      let long : length front ≡ n = simp (length-reverse, length-take) at (ap length turned) ∙ omega arith in
+      asked_turned (front ++ drop n found)
+      (simp (length-append, length-drop) (omega (arith, long)))
+      (subst (λ m. take m (front ++ drop n found) ≡ reverse (take m found)) e (take_at front (drop n found) n long ∙ turned))
+      (subst (λ m. drop m (front ++ drop n found) ≡ drop m found) e (drop_at front (drop n found) n long))
+      (subst Forward et a)
+
+  pub asked_none : filled reply ≡ 0 → (told : Reply) → told ≡ reply → Forward told → Turned found reply
+  asked_none e told et a = asked_turned found refl (subst (λ m. take m found ≡ reverse (take m found)) (sym e) refl) refl (subst Forward et a)
+
 pub filled_back : (last : ℕ) (reply : Reply) → filled (counted_back last reply) ≡ filled reply
 filled_back last (Ok (Found a roads n)) = refl
 filled_back last (Ok (CutOff n)) = refl
@@ -72,7 +104,7 @@ filled_back last (Err r) = refl
 -- the question as it was asked, by the question on the turned network
 module _ (net : Meaning) (law : Laws net) (h : ℕ → ℕ) (s d y table capacity : ℕ) (list list' cells cells' : List ℕ) (held held' : ℕ → Option ℕ) where
   abbrev Backward : Meaning → ℕ → Reply → Type 0
-  Backward back tick reply = Asked (refusal_of back table capacity d s tick) back.places (Fit back h s) (Searched back h AsFound d s tick list') list list' cells cells' held held' reply
+  Backward back tick reply = Asked (refusal_of back table capacity d s tick) back.places (Fit back h s) (Searched back h d s tick list') list list' cells cells' held held' reply
 
   asked_back : (reply : Reply) → Backward (turned net) (back_tick net.last y) reply → Asked (refusal_of net table capacity s d y) net.places (Fit (turned net) h s) (Arrives net h s d y list') list list' cells cells' held held' (counted_back net.last reply)
   asked_back reply a =
@@ -83,7 +115,7 @@ module _ (net : Meaning) (law : Laws net) (h : ℕ → ℕ) (s d y table capacit
         told = λ n fit.
             let m = admitted net table capacity s d y n in
             let tick : back_tick net.last y ≡ net.last - y = cond-true _ _ _ (le-leb y net.last m.tick) in
-            arrives net law h s d y m.start m.destination m.tick list' reply (subst (λ t. Searched (turned net) h AsFound d s t list' reply) tick (a.told (same ∙ n) fit));
+            arrives net law h s d y m.start m.destination m.tick list' reply (subst (λ t. Searched (turned net) h d s t list' reply) tick (a.told (same ∙ n) fit));
         wiped = λ n. a.wiped (same ∙ n);
         empty = λ n. a.empty (same ∙ n);
         rest = subst (λ k. drop k list' ≡ drop k list) (sym (filled_back net.last reply)) a.rest;

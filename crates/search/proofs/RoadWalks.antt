@@ -1,17 +1,22 @@
--- The loops that count and write the roads from a place back to the start.
-use Rattle.std.proofs.Common.{◌≡◌, ℕ, zero, suc, ◌+◌, ◌-◌, ◌<◌, ◌≤◌, List, ◌∷◌, reverse, length, get_or, take, drop, set, Some, sym, refl, ap, ◌∙◌, subst, ⊎_elim, arith}
+-- The walk from a place back to the start, and the loop that writes its roads.
+use Rattle.std.proofs.Common.{◌≡◌, ℕ, zero, suc, ◌+◌, ◌<◌, ◌≤◌, ◌≢◌, List, ◌∷◌, length, get_or, drop, set, Some, None, Option, sym, refl, ap, ◌∙◌, subst, inl, inr, ⊎_elim, arith, length-drop}
+use denote.Ref.{Bor}
+use Rattle.std.specs.Iterator.{AlwaysYields}
+use Rattle.std.proofs.Math.ListN.{length-set}
 use Rattle.std.proofs.lemmas.Bool.{cases_lt, cases_eq}
-use Rattle.std.proofs.lemmas.List.{drop_all, drop_more, ext_get_or, get_or-reverse, get_or-take, length-take-le, length-reverse, get_or-set_same, get_or-set_other}
+use Rattle.std.proofs.lemmas.Iterator.{YieldsList}
+use Rattle.std.proofs.lemmas.List.{drop_all, drop_more, ext_get_or, get_or-set_same, get_or-set_other}
 use Rattle.network.specs.Meaning.{Meaning}
 use Rattle.network.specs.Laws.{Laws}
 use Rattle.journeys.specs.Earliest.{after}
 use Rattle.journeys.specs.Roads.{InTime, Lowest, Back}
+use Rattle.journeys.specs.Roads.Back.{home, over}
 use Rattle.journeys.proofs.Rides.{within, after_some}
-use Rattle.search.specs.declared.roads.Order.{Order}
-use Rattle.search.specs.declared.roads.Order.TheVariants.{AsFound, Reversed}
-use Rattle.search.specs.Labels.{label, arrival_of, Fits, Sought}
-use Rattle.search.specs.RoadLists.{Labelled, arrivals_in, in_order, spot}
+use Rattle.search.specs.declared.roads.RoadsBack.{RoadsBack}
+use Rattle.search.specs.Labels.{label, arrival_of, arrivals_in, Fits, Sought}
+use Rattle.search.specs.RoadLists.{GoesBack, back_steps}
 use Rattle.search.proofs.Backs.{back_first, back_home}
+use Rattle.search.proofs.Tables.{arrival_some, some_none, some_same}
 
 -- a list from its i-th element on
 pub record Split (xs : List ℕ) (i x : ℕ) (rest : List ℕ) : Type 0 where
@@ -26,23 +31,15 @@ split xs i x rest e =
     (λ l. absurd (let d = drop_all i xs l in let n : length (drop i xs) ≡ suc (length rest) = ap length e in let z : length (drop i xs) ≡ 0 = ap length d in omega arith))
     (cases_lt i (length xs))
 
-pub arrival_some : (l x : ℕ) → arrival_of l ≡ Some x → l ≡ suc x
-arrival_some zero x e = absurd (let z : ◌≡◌ {A = ℕ} 0 1 = cc in omega arith)
-arrival_some (suc a) x e = let q : a ≡ x = cc in ap suc q
-
-pub spot_within : (order : Order) (n i : ℕ) → i < n → spot order n i < n
-spot_within AsFound n i h = h
-spot_within Reversed n i h = omega arith
-
 module _ (net : Meaning) (law : Laws net) (cells : List ℕ) where
-  in_time : {v k : ℕ} → Fits net cells v k → InTime net (arrivals_in cells) v k
+  pub in_time : {v k : ℕ} → Fits net cells v k → InTime net (arrivals_in cells) v k
   in_time {v} {k} f = record {
     link = f.link;
     into = f.into;
     timely = ap (λ l. after net k (arrival_of l)) f.from_label ∙ (f.carries ∙ sym (ap arrival_of f.to_label));
   }
 
-  fits : {v k : ℕ} → 1 ≤ label cells v → InTime net (arrivals_in cells) v k → Fits net cells v k
+  pub fits : {v k : ℕ} → 1 ≤ label cells v → InTime net (arrivals_in cells) v k → Fits net cells v k
   fits {v} {k} there f = go (label cells v) refl there
     where
       go : (l : ℕ) → label cells v ≡ l → 1 ≤ l → Fits net cells v k
@@ -59,94 +56,103 @@ module _ (net : Meaning) (law : Laws net) (cells : List ℕ) where
       (λ l. let w = within net law k f.from f.to f.link l f.carries in let p = law.floor k f.link in omega (arith, w.0, p.low, f.from_label, f.to_label))
       (cases_lt net.last f.from)
 
-  -- the tail of a link that fits is a place with a label
-  pub tail_labelled : {v k : ℕ} → Labelled net cells v → Fits net cells v k → Labelled net cells (net.tail k)
-  tail_labelled l f = record { place = law.tail _ f.link; there = omega (arith, f.from_label); long = l.long; early = l.early }
-
   -- the link that is sought is the first road of the list
-  sought_road : {v k : ℕ} → 1 ≤ label cells v → Sought net cells v k → (j : ℕ) → Lowest net (arrivals_in cells) v j → (1 ≤ k) × (k ≡ j)
+  sought_road : {v k : ℕ} → 1 ≤ label cells v → Sought net cells v (Some k) → (j : ℕ) → Lowest net (arrivals_in cells) v j → k ≡ j
   sought_road {v} {k} there s j low =
-      let m = s.lowest j (fits there low.in_time) in
-      let n = low.lowest k (in_time (s.fits m.0)) in
-      (m.0, omega (arith, m.1, n))
+      let m = s.1 j (fits there low.in_time) in
+      let n = low.lowest k (in_time s.0) in
+      omega (arith, m, n)
 
-  -- one road further back on the way to s, where `left` is left of the list
-  record Further (s at k : ℕ) (left : List ℕ) : Type 0 where
-    some : 1 ≤ k
-    rest : List ℕ
-    is : left ≡ k ∷ rest
-    onward : Back net (arrivals_in cells) s (net.tail k) rest
+-- a walk from place v back to the start, over the labels of a table
+module _ {N : Type 0} (meaning : N → Meaning) (net : Meaning) (law : Laws net) (cells : List ℕ) (start : ℕ) where
+  -- it has come to place v
+  pub record At (v : ℕ) (s : RoadsBack N) : Type 0 where
+    pub over : meaning s.net.now ≡ net
+    pub labels : s.cells.now ≡ cells
+    pub from : s.start ≡ start
+    pub at : s.at ≡ v
+    pub there : 1 ≤ label cells v
 
-  further : {s at k : ℕ} {left : List ℕ} → 1 ≤ label cells at → Sought net cells at k → (at ≡ s → ⊥) → Back net (arrivals_in cells) s at left → Further s at k left
-  further {s} there sought other b =
-      let f = back_first b other in
-      let q = sought_road there sought f.road f.lowest in
-      record { some = q.0; rest = f.rest; is = f.is ∙ ap (λ j. j ∷ f.rest) (sym q.1); onward = subst (λ j. Back net (arrivals_in cells) s (net.tail j) f.rest) (sym q.1) f.onward }
+  steps_at : {v : ℕ} {s : RoadsBack N} (r : Option ℕ) (t : RoadsBack N) → At v s → back_steps meaning s r t → GoesBack net cells start v r t.at
+  steps_at {v} {s} r t was step =
+      subst (λ m. GoesBack m cells start v r t.at) was.over
+      (subst (λ c. GoesBack (meaning s.net.now) c start v r t.at) was.labels
+      (subst (λ x. GoesBack (meaning s.net.now) s.cells.now x v r t.at) was.from
+      (subst (λ x. GoesBack (meaning s.net.now) s.cells.now s.start x r t.at) was.at step.3)))
 
-  -- after `count` roads from `place` the walk has come to place `at`
-  abbrev pub Walked : ℕ → ℕ → ℕ → ℕ → Type 0
-  Walked s place count at = (back : List ℕ) → Back net (arrivals_in cells) s place back → (count ≤ length back) × Back net (arrivals_in cells) s at (drop count back)
+  -- a walk is begun
+  pub begun : {v : ℕ} {s : RoadsBack N} {lent : Bor N} {table : Bor (List ℕ)} → 1 ≤ label cells v → s ≡ record { net = lent; cells = table; start = start; at = v } → meaning lent.now ≡ net → table.now ≡ cells → At v s
+  begun there e n c = record { over = ap (λ r. meaning r.net.now) e ∙ n; labels = ap (λ r. r.cells.now) e ∙ c; from = ap (λ r. r.start) e; at = ap (λ r. r.at) e; there = there }
 
-  pub walked_none : (s place : ℕ) → Walked s place 0 place
-  walked_none s place back b = (omega arith, b)
+  -- it goes on at the tail of the road that comes
+  pub onward : {v : ℕ} {s : RoadsBack N} (k : ℕ) (t : RoadsBack N) → At v s → back_steps meaning s (Some k) t → At (net.tail k) t
+  onward {v} {s} k t was step = let goes = steps_at (Some k) t was step in
+      record { over = ap (λ (n : Bor N). meaning n.now) step.0 ∙ was.over; labels = ap (λ (c : Bor (List ℕ)). c.now) step.1 ∙ was.labels; from = step.2 ∙ was.from; at = goes.2; there = omega (arith, goes.1.0.from_label) }
 
-  pub walked_more : (s place count at k : ℕ) → Walked s place count at → 1 ≤ label cells at → (at ≡ s → ⊥) → Sought net cells at k → Walked s place (count + 1) (net.tail k)
-  walked_more s place count at k w there other sought back b =
-      let f = further there sought other (w back b).1 in
-      let p = split back count k f.rest f.is in
-      (omega (arith, p.within), subst (Back net (arrivals_in cells) s (net.tail k)) (sym p.after) f.onward)
+  -- the next road, where the list is not at its end
+  pub next_road : {v k : ℕ} {s : RoadsBack N} → At v s → (v ≢ start) → Lowest net (arrivals_in cells) v k → (r : Option ℕ) (t : RoadsBack N) → back_steps meaning s r t → r ≡ Some k
+  next_road {v} {k} was ne low None t step = absurd (⊎_elim (λ e. ne e) (λ none. none k (fits net law cells was.there low.in_time)) (steps_at None t was step))
+  next_road {v} {k} was ne low (Some j) t step = ap Some (sought_road net law cells was.there (steps_at (Some j) t was step).1 k low)
 
-  pub walked_stuck : (s place count at k : ℕ) → Walked s place count at → 1 ≤ label cells at → (at ≡ s → ⊥) → Sought net cells at k → k ≡ 0 → (back : List ℕ) → Back net (arrivals_in cells) s place back → count ≡ length back
-  walked_stuck s place count at k w there other sought z back b = absurd (omega (arith, (further there sought other (w back b).1).some))
+  always : {v : ℕ} {back : List ℕ} → Back net (arrivals_in cells) start v back → (s : RoadsBack N) → At v s → AlwaysYields (back_steps meaning) (λ k. k) s back
+  always home s was = λ k t step. (steps_at (Some k) t was step).0 refl
+  always (over {v} {k} {rest} ne low b) s was = (
+    λ t step. absurd (some_none (next_road was ne low None t step) refl),
+    λ j t step. let e : j ≡ k = some_same (next_road was ne low (Some j) t step) in (e, always b t (subst (λ i. At (net.tail i) t) e (onward j t was step))),
+  )
 
-  -- nothing is left at s
-  none_left : (s at i : ℕ) (back : List ℕ) → at ≡ s → Back net (arrivals_in cells) s at (drop i back) → length back ≤ i
-  none_left s at i back e b =
-      ⊎_elim
-      (λ l. absurd (let n : length (drop i back) ≡ 0 = ap length (back_home b e) in let m : length (drop i back) ≡ suc (length (drop (i + 1) back)) = ap length (drop_more back i 0 l) in omega arith))
-      (λ l. l)
-      (cases_lt i (length back))
+  pub YieldsList-from_back : {v : ℕ} {back : List ℕ} → Back net (arrivals_in cells) start v back → (s : RoadsBack N) → At v s → YieldsList (back_steps meaning) (λ k. k) s back
+  YieldsList-from_back b s was = record { runs = always b s was }
 
-  pub walked_all : (s place count at : ℕ) → Walked s place count at → at ≡ s → (back : List ℕ) → Back net (arrivals_in cells) s place back → count ≡ length back
-  walked_all s place count at w e back b = let r = w back b in let l = none_left s at count back e r.1 in omega (arith, r.0)
+  -- what the loop that writes the roads from a place to a list keeps, where it has written i of them
+  pub record Writing (place : ℕ) (list : List ℕ) (i : ℕ) (s : RoadsBack N) : Type 0 where
+    pub walk : At s.at s
+    pub left : (back : List ℕ) → Back net (arrivals_in cells) start place back → length list ≡ length back → Back net (arrivals_in cells) start s.at (drop i back)
+    pub front : (back : List ℕ) → Back net (arrivals_in cells) start place back → length list ≡ length back → (j : ℕ) → j < i → get_or list j 0 ≡ get_or back j 0
 
-  -- after i of n roads from `place` the walk has come to place `at`, and each road stands in its cell
-  abbrev pub Written : Order → ℕ → ℕ → List ℕ → ℕ → ℕ → Type 0
-  Written order n place list i at = (s : ℕ) (back : List ℕ) → Back net (arrivals_in cells) s place back → n ≡ length back → Back net (arrivals_in cells) s at (drop i back) × ((j : ℕ) → j < i → get_or list (spot order n j) 0 ≡ get_or back j 0)
+  pub writing_none : {place : ℕ} {s : RoadsBack N} (list : List ℕ) → At place s → Writing place list 0 s
+  writing_none {place} {s} list was = record {
+    walk = subst (λ v. At v s) (sym was.at) was;
+    left = λ back b e. subst (λ v. Back net (arrivals_in cells) start v back) (sym was.at) b;
+    front = λ back b e j l. absurd (omega arith);
+  }
 
-  pub written_none : (order : Order) (n place : ℕ) (list : List ℕ) → Written order n place list 0 place
-  written_none order n place list s back b e = (b, λ j l. absurd (omega arith))
+  module _ {place : ℕ} {list : List ℕ} {i : ℕ} {s : RoadsBack N} (was : Writing place list i s) (more : i < length list) where
+    -- the next road of the list
+    record Next (back : List ℕ) (r : Option ℕ) : Type 0 where
+      road : ℕ
+      is : r ≡ Some road
+      here : get_or back i 0 ≡ road
+      onward : Back net (arrivals_in cells) start (net.tail road) (drop (i + 1) back)
 
-  module _ (order : Order) (n place : ℕ) (list : List ℕ) (i at k : ℕ) (w : Written order n place list i at) (there : 1 ≤ label cells at) (more : i < n) (sought : Sought net cells at k) where
-    step : (s : ℕ) (back : List ℕ) → Back net (arrivals_in cells) s place back → n ≡ length back → Further s at k (drop i back)
-    step s back b e = let r = w s back b e in further there sought (λ q. let l = none_left s at i back q r.0 in absurd (omega arith)) r.0
+    next : (back : List ℕ) → Back net (arrivals_in cells) start place back → length list ≡ length back → (r : Option ℕ) (t : RoadsBack N) → back_steps meaning s r t → Next back r
+    next back b e r t step = elim (cases_eq s.at start) [
+      | inl q ↦ absurd (let n : length (drop i back) ≡ 0 = ap length (back_home (was.left back b e) q) in omega (arith, length-drop i back))
+      | inr ne ↦
+          let f = back_first (was.left back b e) ne in
+          let p = split back i f.road f.rest f.is in
+          record { road = f.road; is = next_road was.walk ne f.lowest r t step; here = p.here; onward = subst (Back net (arrivals_in cells) start (net.tail f.road)) (sym p.after) f.onward }
+    ]
 
-    pub written_stuck : k ≡ 0 → (s : ℕ) (back : List ℕ) → Back net (arrivals_in cells) s place back → n ≡ length back → in_order order (take n list) ≡ back
-    written_stuck z s back b e = absurd (omega (arith, (step s back b e).some))
+    pub writing_stuck : {r : Option ℕ} (t : RoadsBack N) → r ≡ None → back_steps meaning s r t → (back : List ℕ) → Back net (arrivals_in cells) start place back → length list ≡ length back → list ≡ back
+    writing_stuck {r} t none step back b e = absurd (some_none (next back b e r t step).is none)
 
-    pub written_more : n ≤ length list → Written order n place (set list (spot order n i) k) (i + 1) (net.tail k)
-    written_more room s back b e =
-        let f = step s back b e in
-        let p = split back i k f.rest f.is in (
-          subst (Back net (arrivals_in cells) s (net.tail k)) (sym p.after) f.onward,
-          (λ j l. ⊎_elim
-              (λ q. subst (λ x. get_or (set list (spot order n i) k) (spot order n x) 0 ≡ get_or back x 0) (sym q) (get_or-set_same list (spot order n i) k 0 (omega (arith, spot_within order n i more)) ∙ sym p.here))
-              (λ q. get_or-set_other list (spot order n i) (spot order n j) k 0 (spot_other order j q l) ∙ (w s back b e).1 j (omega arith))
-              (cases_eq j i)),
-        )
-      where
-        spot_other : (o : Order) (j : ℕ) → (j ≡ i → ⊥) → j < i + 1 → spot o n j ≡ spot o n i → ⊥
-        spot_other AsFound j q l e = q e
-        spot_other Reversed j q l e = omega arith
+    pub writing_more : {k : ℕ} (t : RoadsBack N) → back_steps meaning s (Some k) t → Writing place (set list i k) (i + 1) t
+    writing_more {k} t step =
+        let on = onward k t was.walk step in
+        let follows = λ (back : List ℕ) (b : Back net (arrivals_in cells) start place back) (e : length (set list i k) ≡ length back). next back b (sym (length-set list i k) ∙ e) (Some k) t step in
+        record {
+          walk = subst (λ v. At v t) (sym on.at) on;
+          left = λ back b e.
+              let n = follows back b e in
+              subst (λ v. Back net (arrivals_in cells) start v (drop (i + 1) back)) (ap net.tail (sym (some_same n.is)) ∙ sym on.at) n.onward;
+          front = λ back b e j l.
+              let n = follows back b e in
+              ⊎_elim
+              (λ q. subst (λ x. get_or (set list i k) x 0 ≡ get_or back x 0) (sym q) (get_or-set_same list i k 0 more ∙ (some_same n.is ∙ sym n.here)))
+              (λ q. get_or-set_other list i j k 0 q ∙ was.front back b (sym (length-set list i k) ∙ e) j (omega (arith, q)))
+              (cases_eq j i);
+        }
 
-  pub written_all : (order : Order) (n place : ℕ) (list : List ℕ) (i at : ℕ) → Written order n place list i at → n ≤ i → n ≤ length list → (s : ℕ) (back : List ℕ) → Back net (arrivals_in cells) s place back → n ≡ length back → in_order order (take n list) ≡ back
-  written_all order n place list i at w h room s back b e = go order (λ j l. (w s back b e).1 j (omega arith))
-    where
-      long : length (take n list) ≡ n
-      long = length-take-le n list room
-
-      go : (o : Order) → ((j : ℕ) → j < n → get_or list (spot o n j) 0 ≡ get_or back j 0) → in_order o (take n list) ≡ back
-      go AsFound each = ext_get_or 0 (take n list) back (long ∙ e) (λ j l. let jn : j < n = omega (arith, long) in get_or-take n list j 0 jn ∙ each j jn)
-      go Reversed each =
-          ext_get_or 0 (reverse (take n list)) back (length-reverse (take n list) ∙ (long ∙ e))
-          (λ j l. let jn : j < n = omega (arith, long, length-reverse (take n list)) in get_or-reverse (take n list) j 0 (omega (arith, long)) ∙ (ap (λ m. get_or (take n list) (m - 1 - j) 0) long ∙ (get_or-take n list (n - 1 - j) 0 (omega arith) ∙ each j jn)))
+  pub writing_all : {place : ℕ} {list : List ℕ} {i : ℕ} {s : RoadsBack N} → Writing place list i s → length list ≤ i → (back : List ℕ) → Back net (arrivals_in cells) start place back → length list ≡ length back → list ≡ back
+  writing_all {place} {list} was h back b e = ext_get_or 0 list back e (λ j l. was.front back b e j (omega arith))

@@ -1,35 +1,33 @@
--- Labels as they are read from a table and taken out of it.
-use Rattle.std.proofs.Common.{◌≡◌, ℕ, zero, suc, ◌+◌, ◌-◌, ◌<◌, ◌≤◌, ◌⊎◌, List, length, get_or, set, sym, refl, ap, ◌∙◌, subst, inl, inr, arith}
-use Rattle.std.proofs.lemmas.Bool.{cases_eq}
-use Rattle.std.proofs.lemmas.List.{get_or-set_same, get_or-set_other}
-use Rattle.search.specs.Labels.{Within, Wiped, label}
+-- Labels and limits, case by case.
+use Rattle.std.proofs.Common.{◌≡◌, ℕ, zero, suc, ◌+◌, ◌≤◌, ◌⊎◌, List, Some, None, Option, refl, ap, inl, inr, arith}
+use Rattle.search.specs.Labels.{Within, label, arrival_of, arrivals_in}
 
 -- a label is none, or a tick and one
 pub label_cases : (l : ℕ) → (l ≡ 0) ⊎ ((a : ℕ) × (l ≡ suc a))
 label_cases zero = inl refl
 label_cases (suc a) = inr (a, refl)
 
--- the cell that holds a place's label
-pub label_read : (cells : List ℕ) (p : ℕ) → 1 ≤ p → label cells p ≡ get_or cells (p - 1) 0
-label_read cells zero l = absurd (omega arith)
-label_read cells (suc i) l = ap (λ j. get_or cells j 0) (omega arith)
-
 -- what is below a number within the bound is within it too
-pub within_less : (bound x y : ℕ) → x ≤ y → Within bound y → Within bound x
-within_less zero x y l w = tt
-within_less (suc g) x y l w = omega arith
+pub within_less : (bound : Option ℕ) (x y : ℕ) → x ≤ y → Within bound y → Within bound x
+within_less None x y l w = tt
+within_less (Some g) x y l w = omega arith
 
--- one more label is taken out
-pub wiped_more : (before cells : List ℕ) (i : ℕ) → i < length cells → Wiped i before cells → Wiped (i + 1) before (set cells i 0)
-wiped_more before cells i within was = record { front = front; rest = rest }
-  where
-    front : (v : ℕ) → v ≤ i + 1 → label (set cells i 0) v ≡ 0
-    front zero l = refl
-    front (suc j) l = elim (cases_eq j i) [
-      | inl e ↦ subst (λ z. get_or (set cells i 0) z 0 ≡ 0) (sym e) (get_or-set_same cells i 0 0 within)
-      | inr n ↦ get_or-set_other cells i j 0 0 n ∙ was.front (suc j) (omega (arith, n))
-    ]
+-- what an arrival says of the label, and none
+pub arrival_some : (l x : ℕ) → arrival_of l ≡ Some x → l ≡ suc x
+arrival_some zero x e = absurd (cc)
+arrival_some (suc a) x e = let q : a ≡ x = cc in ap suc q
 
-    rest : (v : ℕ) → i + 1 < v → label (set cells i 0) v ≡ label before v
-    rest zero l = absurd (omega arith)
-    rest (suc j) l = get_or-set_other cells i j 0 0 (λ e. omega (arith, e)) ∙ was.rest (suc j) (omega arith)
+pub none_label : (l : ℕ) → arrival_of l ≡ None → 1 ≤ l → ⊥
+none_label zero e there = omega arith
+none_label (suc a) e there = absurd (cc)
+
+-- an option isn't both
+pub some_none : {A : Type 0} {o : Option A} {x : A} → o ≡ Some x → o ≡ None → ⊥
+some_none p q = let z : ◌≡◌ {A = ℕ} 0 1 = cc in omega arith
+
+pub some_same : {x y : ℕ} → ◌≡◌ {A = Option ℕ} (Some x) (Some y) → x ≡ y
+some_same e = cc
+
+-- a label that is early says an arrival that is
+pub label_time : {last : ℕ} (cells : List ℕ) (v : ℕ) {a : ℕ} → arrivals_in cells v ≡ Some a → label cells v ≤ last + 1 → a ≤ last
+label_time cells v e early = omega (arith, arrival_some (label cells v) _ e)

@@ -8,10 +8,10 @@ use Rattle.journeys.specs.Journey.{Journey}
 use Rattle.journeys.specs.Journey.Journey.{stay}
 use Rattle.journeys.proofs.Rides.{journey_within}
 use Rattle.search.specs.Estimate.{Consistent}
-use Rattle.search.specs.Labels.{Lowers, Past, Found, Sound, label}
+use Rattle.search.specs.Labels.{Lowers, Past, Found, Sound, goal_arrival, label}
 use Rattle.search.specs.Steps.{Keyed, State, Walk, Settled, rank, total}
 use Rattle.search.proofs.Walks.{at_end}
-use Rattle.search.proofs.Relaxing.{some_none}
+use Rattle.search.proofs.Tables.{some_none}
 use Rattle.search.proofs.Complete.{complete}
 
 -- the label of a place says no tick past the last
@@ -115,22 +115,22 @@ module _ {net : Meaning} {h : ℕ → ℕ} {s t : ℕ} where
           record { sound = now.sound; began = now.began; keyed = now.keyed; done = λ k a i free e from. now.done k a i free e (λ q. at_end k) }
 
   -- where the least key is past the bound, each label within the bound is settled
-  pub past_settled : {cells : List ℕ} {held : ℕ → Option ℕ} {key p : ℕ} → State net h s t 0 0 cells held → Best held key p → (bound : ℕ) → Past bound key → Settled net h bound cells
-  past_settled was best zero past = absurd (omega (arith, past.low))
-  past_settled {cells} {held} was best (suc g) past = λ k a i e w. was.done k a i (free (net.tail k) a e w) e (λ q. at_end k)
+  pub past_settled : {cells : List ℕ} {held : ℕ → Option ℕ} {key p : ℕ} → State net h s t 0 0 cells held → Best held key p → (bound : Option ℕ) → Past bound key → Settled net h bound cells
+  past_settled was best None past = absurd past
+  past_settled {cells} {held} was best (Some g) past = λ k a i e w. was.done k a i (free (net.tail k) a e w) e (λ q. at_end k)
     where
       free : (u a : ℕ) → label cells u ≡ suc a → a + h u ≤ g → held u ≡ None
       free u a e w = go (held u) refl
         where
           go : (o : Option ℕ) → held u ≡ o → o ≡ None
           go None q = refl
-          go (Some x) q = absurd (omega (arith, (was.keyed u x q).sum, best.least u x q, e, past.high))
+          go (Some x) q = absurd (omega (arith, (was.keyed u x q).sum, best.least u x q, e, past))
 
   -- where nothing is held, each label is settled
-  pub empty_settled : {cells : List ℕ} {held : ℕ → Option ℕ} → State net h s t 0 0 cells held → Empty held → (bound : ℕ) → Settled net h bound cells
+  pub empty_settled : {cells : List ℕ} {held : ℕ → Option ℕ} → State net h s t 0 0 cells held → Empty held → (bound : Option ℕ) → Settled net h bound cells
   empty_settled was none bound = λ k a i e w. was.done k a i (none (net.tail k)) e (λ q. at_end k)
 
   -- where each label that counts is settled, a search is done
-  pub found : {cells : List ℕ} {held : ℕ → Option ℕ} → Laws net → (goal : ℕ) → State net h s t 0 0 cells held → Settled net h (label cells goal) cells → Consistent net h → Found net h s t goal cells
+  pub found : {cells : List ℕ} {held : ℕ → Option ℕ} → Laws net → (goal : Option ℕ) → State net h s t 0 0 cells held → Settled net h (goal_arrival cells goal) cells → Consistent net h → Found net h s t goal cells
   found {cells} laws goal was settled even =
-      record { sound = was.sound; best = λ v a roads j w. complete net h laws even (label cells goal) cells settled j was.began w }
+      record { sound = was.sound; best = λ v a roads j w. complete net h laws even (goal_arrival cells goal) cells settled j was.began w }

@@ -1,12 +1,24 @@
 -- Walks over the links out of a place or into it, in rising order.
-use Rattle.std.proofs.Common.{◌≡◌, ℕ, zero, suc, ◌-◌, ◌<◌, ◌≤◌, List, sym, ap, ◌∙◌, subst, inl, inr, arith}
-use Rattle.std.proofs.lemmas.Bool.{cases_lt, cases_order, cond-true}
-use Rattle.network.specs.Meaning.{Meaning, IsPlace, IsLink}
+use Rattle.std.proofs.Common.{◌≡◌, ℕ, zero, suc, ◌-◌, ◌<◌, ◌≤◌, Bool, true, false, List, [], ◌∷◌, Some, None, Option, sym, ap, ◌∙◌, subst, inl, inr, arith}
+use Rattle.std.specs.Bool.{⊤}
+use Rattle.std.specs.Fn.{CalledAt}
+use Rattle.std.specs.Iterator.{Yields, YieldsThen}
+use Rattle.std.specs.List.{FoldsTo}
+use Rattle.std.specs.Option.{MatchOption}
+use denote.Param.Members.{Mut}
+use denote.Ref.{Bor}
+use Rattle.std.proofs.lemmas.Bool.{cases_lt, cases_order, cases_Bool, cond-true, cond-false, false≢true}
+use Rattle.network.specs.Meaning.{Meaning, IsPlace, IsLink, among}
+use Rattle.network.specs.Laws.{Laws}
 use Rattle.network.specs.Links.{first, next, lowest, IsLowest}
 use Rattle.network.proofs.Lowest.{lowest_found}
-use Rattle.network.proofs.Ranges.{true_among}
+use Rattle.network.proofs.Ranges.{true_among, among_true}
 use Rattle.search.specs.Labels.{Fits, Sought}
-use Rattle.search.specs.Steps.{Before, AtLink, Seeking, links_left}
+use Rattle.search.specs.declared.links.Links.{Links}
+use Rattle.search.specs.declared.links.Side.{Side}
+use Rattle.search.specs.declared.links.Side.TheVariants.{Into}
+use Rattle.search.specs.LinkWalks.{Comes, end_on, link_steps, links_left}
+use Rattle.search.specs.Steps.{Before, AtLink, Seeking}
 
 -- each link comes before the end of a walk
 pub at_end : (k : ℕ) → Before 0 k
@@ -37,26 +49,37 @@ module _ (net : Meaning) (end : ℕ → ℕ) where
   ]
 
   -- what is left of a walk falls
-  pub walk_falls : {k after : ℕ} → IsLink net k → after ≡ next net end k → links_left net.links after < links_left net.links k
-  walk_falls {k} {after} i e = go k after i.low i.high (λ l. let f = (next_lowest k i).found (subst (λ n. 1 ≤ n) e l) in (omega (arith, f.0, e), omega (arith, f.1, e)))
+  pub walk_falls : {k after : ℕ} → 1 ≤ k → after ≡ next net end k → links_left net.links after < links_left net.links k
+  walk_falls {k} {after} low e = subst (λ z. links_left net.links z < links_left net.links k) (sym e) (go k (next net end k) low (elim (cases_Bool (among k net.links)) [
+    | inl t ↦ (λ l. let f = (next_lowest k (among_true k net.links t)).found l in (f.0, f.1))
+    | inr n ↦ (λ l. absurd (let z : next net end k ≡ 0 = cond-false _ _ _ n in omega arith))
+  ]))
     where
-      go : (k after : ℕ) → 1 ≤ k → k ≤ net.links → (1 ≤ after → (k < after) × (after ≤ net.links)) → links_left net.links after < links_left net.links k
-      go zero after l h u = absurd (omega arith)
-      go (suc c) zero l h u = omega arith
-      go (suc c) (suc d) l h u = let w = u (omega arith) in omega (arith, w.0, w.1)
+      go : (k after : ℕ) → 1 ≤ k → (1 ≤ after → (k < after) × (after ≤ net.links)) → links_left net.links after < links_left net.links k
+      go zero after l u = absurd (omega arith)
+      go (suc c) zero l u = omega arith
+      go (suc c) (suc d) l u = let w = u (omega arith) in omega (arith, w.0, w.1)
 
-module _ {net : Meaning} {cells : List ℕ} {p : ℕ} where
+module _ (net : Meaning) (law : Laws net) (cells : List ℕ) (p : ℕ) where
   -- a walk begins at the first link into a place
-  pub seek_start : {at : ℕ} → IsPlace net p → at ≡ first net net.head p → Seeking net cells p at
-  seek_start i e =
-      let low = subst (IsLowest net.head p 0 net.links) (sym e) (first_lowest net net.head p i) in
-      record {
-        link = lowest_link net net.head low;
-        passed = λ j f b. omega (arith, lowest_none net net.head low f.link f.into b, f.link.low);
-      }
+  seek_start : {at : ℕ} → at ≡ first net net.head p → Seeking net cells p at
+  seek_start {at} e = elim (cases_Bool (among p net.places)) [
+    | inl t ↦
+        let low = subst (IsLowest net.head p 0 net.links) (sym e) (first_lowest net net.head p (among_true p net.places t)) in
+        record {
+          link = lowest_link net net.head low;
+          passed = λ j f b. omega (arith, lowest_none net net.head low f.link f.into b, f.link.low);
+        }
+    | inr n ↦
+        let z : first net net.head p ≡ 0 = cond-false _ _ _ n in
+        record {
+          link = λ l. absurd (omega (arith, e));
+          passed = λ j f b. absurd (false≢true (sym n ∙ true_among p net.places (subst (IsPlace net) f.into (law.head j f.link))));
+        }
+  ]
 
   -- a walk goes on from a link that doesn't fit
-  pub seek_more : {k at : ℕ} → Seeking net cells p k → 1 ≤ k → (Fits net cells (net.head k) k → ⊥) → at ≡ next net net.head k → Seeking net cells p at
+  seek_more : {k at : ℕ} → Seeking net cells p k → 1 ≤ k → (Fits net cells (net.head k) k → ⊥) → at ≡ next net net.head k → Seeking net cells p at
   seek_more {k} {at} was l off e =
       let o = was.link l in
       let low = subst (λ q. IsLowest net.head q k net.links at) o.1 (subst (IsLowest net.head (net.head k) k net.links) (sym e) (next_lowest net net.head k o.0)) in
@@ -69,14 +92,41 @@ module _ {net : Meaning} {cells : List ℕ} {p : ℕ} where
         ];
       }
 
-  -- the link come to fits, and none before it does
-  pub sought_here : {k : ℕ} → Seeking net cells p k → 1 ≤ k → Fits net cells (net.head k) k → Sought net cells p k
-  sought_here {k} was l f =
-      record {
-        fits = λ _. subst (λ w. Fits net cells w k) (was.link l).1 f;
-        lowest = λ j i. elim (cases_lt j k) [ inl m ↦ absurd (was.passed j i (λ _. m)) | inr m ↦ (l, m) ];
-      }
+-- what a walk over the links on a side gives next, by the network that it is over
+pub comes : {N : Type 0} (meaning : N → Meaning) {net : Meaning} (side : Side) (s t : Links N) (r : Option ℕ) → meaning s.net.now ≡ net → s.side ≡ side → link_steps meaning s r t → Comes net (end_on net side) s.next r t.next
+comes meaning {net} side s t r over on step = subst (λ m. Comes m (end_on m side) s.next r t.next) over (subst (λ x. Comes (meaning s.net.now) (end_on (meaning s.net.now) x) s.next r t.next) on step.2)
 
-  -- at the end of a walk none fits
-  pub sought_none : {k : ℕ} → Seeking net cells p k → k ≡ 0 → Sought net cells p 0
-  sought_none was e = record { fits = λ l. absurd (omega arith); lowest = λ j f. absurd (was.passed j f (λ l. absurd (omega arith))) }
+-- what a walk over the links into a place finds, where the call of f says whether a link fits
+module _ {N F : Type 0} (meaning : N → Meaning) (lent : Bor N) (law : Laws (meaning lent.now)) (cells : List ℕ) (p : ℕ)
+    {g : Mut F (Bor ℕ × Unit {0}) Bool} (f : F)
+    (yes : (k : ℕ) (q : F) → CalledAt g f k true q → Fits (meaning lent.now) cells ((meaning lent.now).head k) k)
+    (no : (k : ℕ) (q : F) → CalledAt g f k false q → (q ≡ f) × (Fits (meaning lent.now) cells ((meaning lent.now).head k) k → ⊥)) where
+  -- a walk under way
+  record Along (s : Links N) : Type 0 where
+    net : s.net ≡ lent
+    side : s.side ≡ Into
+    passed : Seeking (meaning lent.now) cells p s.next
+
+  passed_all : (xs : List ℕ) (s t : Links N) (j : F) → Along s → Yields (link_steps meaning) s xs t → FoldsTo (λ a x b. CalledAt g a x false b) f xs j → (j ≡ f) × Along t
+  passed_all [] s t j was y calls = (sym calls, subst Along y was)
+  passed_all (k ∷ xs) s t j was (u, step, y) (q, call, calls) =
+      let (here, low, after) = comes meaning {net = meaning lent.now} Into s u (Some k) (ap (λ (n : Bor N). meaning n.now) was.net) was.side step in
+      let (same, off) = no k q call in
+      let at_k : Seeking (meaning lent.now) cells p k = subst (Seeking (meaning lent.now) cells p) (sym here) was.passed in
+      passed_all xs u t j
+      (record { net = step.0 ∙ was.net; side = step.1 ∙ was.side; passed = seek_more (meaning lent.now) law cells p at_k low off after })
+      y (subst (λ z. FoldsTo (λ a x b. CalledAt g a x false b) z xs j) same calls)
+
+  pub sought : (s u : Links N) (r : Option ℕ) → s.net ≡ lent → s.side ≡ Into → s.next ≡ first (meaning lent.now) (meaning lent.now).head p
+      → (xs : List ℕ) × (j : F) × YieldsThen (link_steps meaning) s xs r u × FoldsTo (λ a x b. CalledAt g a x false b) f xs j × MatchOption r ⊤ (λ x. (h : F) × CalledAt g j x true h) → Sought (meaning lent.now) cells p r
+  sought s u r net side e (xs, j, (t, y, last), calls, found) =
+      let (same, was) = passed_all xs s t j (record { net = net; side = side; passed = seek_start (meaning lent.now) law cells p e }) y calls in
+      go r (comes meaning {net = meaning lent.now} Into t u r (ap (λ (n : Bor N). meaning n.now) was.net) was.side last) found same was.passed
+    where
+      go : {at : ℕ} (r : Option ℕ) → Comes (meaning lent.now) (meaning lent.now).head at r u.next → MatchOption r ⊤ (λ x. (h : F) × CalledAt g j x true h) → j ≡ f → Seeking (meaning lent.now) cells p at → Sought (meaning lent.now) cells p r
+      go None end _ same was = λ k fits. was.passed k fits (λ l. absurd (omega arith))
+      go (Some k) (here, low, _) (h, call) same was =
+          let at_k : Seeking (meaning lent.now) cells p k = subst (Seeking (meaning lent.now) cells p) (sym here) was in (
+            subst (λ z. Fits (meaning lent.now) cells z k) (at_k.link low).1 (yes k h (subst (λ z. CalledAt g z k true h) same call)),
+            λ i fits. elim (cases_lt i k) [ inl m ↦ absurd (at_k.passed i fits (λ _. m)) | inr m ↦ m ],
+          )

@@ -1,5 +1,5 @@
 -- The table of labels, what its functions do, and what a search leaves in it.
-use Rattle.std.specs.Prelude.{◌≡◌, ℕ, zero, suc, ◌+◌, ◌<◌, ◌≤◌, Bool, true, false, List, length, Some, None, Option, ◌≢◌, slice_index}
+use Rattle.std.specs.Prelude.{◌≡◌, ℕ, zero, suc, ◌+◌, ◌<◌, ◌≤◌, Bool, true, false, List, length, Some, None, Option, ◌≢◌, nat_le, slice_index}
 use Rattle.network.specs.Meaning.{Meaning, IsLink}
 use Rattle.journeys.specs.Journey.{Journey}
 
@@ -12,6 +12,15 @@ label cells (suc i) = slice_index cells i
 abbrev pub arrival_of : ℕ → Option ℕ
 arrival_of zero = None
 arrival_of (suc a) = Some a
+
+-- the arrivals that the labels say
+abbrev pub arrivals_in : List ℕ → ℕ → Option ℕ
+arrivals_in cells v = arrival_of (label cells v)
+
+-- the arrival at the goal, where one is given
+abbrev pub goal_arrival : List ℕ → Option ℕ → Option ℕ
+goal_arrival cells None = None
+goal_arrival cells (Some goal) = arrivals_in cells goal
 
 -- a label is there, and its arrival is no later than tick a
 abbrev pub By : ℕ → ℕ → Type 0
@@ -45,24 +54,33 @@ pub record Room (net : Meaning) (table : List ℕ) (capacity : ℕ) : Type 0 whe
   pub cells : net.places ≤ length table
   pub queue : net.places ≤ capacity
 
--- a number is at most a bound, which is a tick and one, or 0 for no bound
-abbrev pub Within : ℕ → ℕ → Type 0
-Within zero x = Unit {0}
-Within (suc g) x = x ≤ g
+-- a number is at most a limit, where there is one
+abbrev pub Within : Option ℕ → ℕ → Type 0
+Within None x = Unit {0}
+Within (Some g) x = x ≤ g
 
--- a key is past a bound
-pub record Past (bound key : ℕ) : Type 0 where
-  pub low : 1 ≤ bound
-  pub high : bound ≤ key
+-- a key is past a limit
+abbrev pub Past : Option ℕ → ℕ → Type 0
+Past None key = ⊥
+Past (Some g) key = g < key
 
--- a label of place v is there and is, with the estimate, within the bound
-abbrev pub Near : (ℕ → ℕ) → ℕ → ℕ → ℕ → Type 0
-Near h bound v zero = ⊥
-Near h bound v (suc a) = Within bound (a + h v)
+-- the arrival o at place v is there and is, with the estimate, within the limit
+abbrev pub Near : (ℕ → ℕ) → Option ℕ → ℕ → Option ℕ → Type 0
+Near h limit v None = ⊥
+Near h limit v (Some a) = Within limit (a + h v)
 
--- a place's label in a table is near
-abbrev pub NearIn : (ℕ → ℕ) → ℕ → List ℕ → ℕ → Type 0
-NearIn h bound cells v = Near h bound v (label cells v)
+-- the same as tests
+abbrev pub is_within : Option ℕ → ℕ → Bool
+is_within None x = true
+is_within (Some g) x = nat_le x g
+
+abbrev pub is_near : (ℕ → ℕ) → Option ℕ → ℕ → Option ℕ → Bool
+is_near h limit v None = false
+is_near h limit v (Some a) = is_within limit (a + h v)
+
+-- the arrival that a place's label says is near
+abbrev pub NearIn : (ℕ → ℕ) → Option ℕ → List ℕ → ℕ → Type 0
+NearIn h limit cells v = Near h limit v (arrivals_in cells v)
 
 -- the labels of the places up to n say no tick that is past the greatest
 abbrev pub Early : ℕ → List ℕ → Type 0
@@ -72,11 +90,11 @@ Early n cells = (v : ℕ) → v ≤ n → label cells v ≤ 604801
 abbrev pub Sound : Meaning → ℕ → ℕ → List ℕ → Type 0
 Sound net s t cells = (v a : ℕ) → v ≤ net.places → label cells v ≡ suc a → (roads : List ℕ) × Journey net s t roads v a
 
--- The labels after a search for the place `goal`, or for all places where that is 0: each is the arrival of a journey, and no
--- journey whose arrival is, with the estimate, within the goal's label is earlier than the label of its place.
-pub record Found (net : Meaning) (h : ℕ → ℕ) (s t goal : ℕ) (cells : List ℕ) : Type 0 where
+-- The labels after a search for the goal, or for all places where none is given: each is the arrival of a journey, and no journey
+-- whose arrival is, with the estimate, within the goal's is earlier than the label of its place.
+pub record Found (net : Meaning) (h : ℕ → ℕ) (s t : ℕ) (goal : Option ℕ) (cells : List ℕ) : Type 0 where
   pub sound : Sound net s t cells
-  pub best : (v a : ℕ) (roads : List ℕ) → Journey net s t roads v a → Within (label cells goal) (a + h v) → By (label cells v) a
+  pub best : (v a : ℕ) (roads : List ℕ) → Journey net s t roads v a → Within (goal_arrival cells goal) (a + h v) → By (label cells v) a
 
 -- link k leads into place v and, entered at the label of its tail, arrives at the label of v
 pub record Fits (net : Meaning) (cells : List ℕ) (v k : ℕ) : Type 0 where
@@ -88,7 +106,7 @@ pub record Fits (net : Meaning) (cells : List ℕ) (v k : ℕ) : Type 0 where
   pub to_label : label cells v ≡ suc to
   pub carries : net.arrival k from ≡ Some to
 
--- k is the lowest link into v that fits the labels, or 0 where none does
-pub record Sought (net : Meaning) (cells : List ℕ) (v k : ℕ) : Type 0 where
-  pub fits : 1 ≤ k → Fits net cells v k
-  pub lowest : (j : ℕ) → Fits net cells v j → (1 ≤ k) × (k ≤ j)
+-- the answer is the lowest link into v that fits the labels, or none where none does
+abbrev pub Sought : Meaning → List ℕ → ℕ → Option ℕ → Type 0
+Sought net cells v None = (j : ℕ) → Fits net cells v j → ⊥
+Sought net cells v (Some k) = Fits net cells v k × ((j : ℕ) → Fits net cells v j → k ≤ j)

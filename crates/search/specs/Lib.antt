@@ -1,5 +1,6 @@
 pub mod Estimate
 pub mod Labels
+pub mod LinkWalks
 pub mod Steps
 pub mod Counting
 pub mod RoadLists

@@ -12,11 +12,9 @@ use Rattle.refusals.specs.declared.refusal.Refusal.TheVariants.{NoPlace, NoTick,
 use Rattle.search.specs.declared.question.Question.{Question}
 use Rattle.search.specs.declared.question.Answer.{Answer}
 use Rattle.search.specs.declared.question.Answer.TheVariants.{Found, NoWay as CutOff}
-use Rattle.search.specs.declared.roads.Order.{Order}
 use Rattle.search.specs.Estimate.{Fit}
 use Rattle.search.specs.Counting.{Count, TakenPlace}
 use Rattle.search.specs.Labels.{Wiped}
-use Rattle.search.specs.RoadLists.{in_order}
 
 -- this refusal, unless the test holds; then what comes after
 abbrev pub unless : Bool → Refusal → Option Refusal → Option Refusal
@@ -63,20 +61,20 @@ TooShort Way IsList needed cells = Way × ((roads : List ℕ) × IsList roads ×
 abbrev pub Reached : Meaning → ℕ → ℕ → ℕ → Type 0
 Reached net s d t = (tick : ℕ) × FirstArrival net s t d tick
 
--- What one search gives, over the network that is searched: the roads come in the order asked for.
-pub record Way (net : Meaning) (h : ℕ → ℕ) (order : Order) (s d t tick : ℕ) (roads : List ℕ) (count : ℕ) : Type 0 where
+-- What one search gives, over the network that is searched: the roads come as they are found, from the end back.
+pub record Way (net : Meaning) (h : ℕ → ℕ) (s d t tick : ℕ) (roads : List ℕ) (count : ℕ) : Type 0 where
   pub first : FirstArrival net s t d tick
-  pub back : Back net (earliest net s t) s d (in_order order roads)
+  pub back : Back net (earliest net s t) s d roads
   pub taken : Count (TakenPlace net h s t (Some tick)) net.places count
 
-abbrev pub Searched : Meaning → (ℕ → ℕ) → Order → ℕ → ℕ → ℕ → List ℕ → Reply → Type 0
-Searched net h order s d t list (Ok (Found tick roads taken)) = (roads ≤ length list) × Way net h order s d t tick (take roads list) taken
-Searched net h order s d t list (Ok (CutOff taken)) = NoDeparture net s d t taken
-Searched net h order s d t list (Err (ShortList needed)) = TooShort (Reached net s d t) (Back net (earliest net s t) s d) needed (length list)
-Searched net h order s d t list (Err NoPlace) = ⊥
-Searched net h order s d t list (Err NoTick) = ⊥
-Searched net h order s d t list (Err ShortTable) = ⊥
-Searched net h order s d t list (Err ShortQueue) = ⊥
+abbrev pub Searched : Meaning → (ℕ → ℕ) → ℕ → ℕ → ℕ → List ℕ → Reply → Type 0
+Searched net h s d t list (Ok (Found tick roads taken)) = (roads ≤ length list) × Way net h s d t tick (take roads list) taken
+Searched net h s d t list (Ok (CutOff taken)) = NoDeparture net s d t taken
+Searched net h s d t list (Err (ShortList needed)) = TooShort (Reached net s d t) (Back net (earliest net s t) s d) needed (length list)
+Searched net h s d t list (Err NoPlace) = ⊥
+Searched net h s d t list (Err NoTick) = ⊥
+Searched net h s d t list (Err ShortTable) = ⊥
+Searched net h s d t list (Err ShortQueue) = ⊥
 
 abbrev pub Departs : Meaning → (ℕ → ℕ) → ℕ → ℕ → ℕ → List ℕ → Reply → Type 0
 Departs net h s d t list (Ok (Found tick roads taken)) = (roads ≤ length list) × Departure net h s d t tick (take roads list) taken
@@ -144,10 +142,10 @@ pub record Asked (refused : Option Refusal) (places : ℕ) (fit : Type 0) (Told 
   pub rest : drop (filled reply) list' ≡ drop (filled reply) list
 
 -- A question over the network that is searched, a depart-at question and an arrive_by question, with what was lent before and after.
-abbrev pub Asks : Meaning → (ℕ → ℕ) → Order → ℕ → Question → List ℕ → List ℕ → List ℕ → List ℕ → (ℕ → Option ℕ) → (ℕ → Option ℕ) → Reply → Type 0
-Asks net h order capacity q list list' table table' held held' =
+abbrev pub Asks : Meaning → (ℕ → ℕ) → ℕ → Question → List ℕ → List ℕ → List ℕ → List ℕ → (ℕ → Option ℕ) → (ℕ → Option ℕ) → Reply → Type 0
+Asks net h capacity q list list' table table' held held' =
     Asked (refusal_of net (length table) capacity q.start q.destination q.tick) net.places (Fit net h q.destination)
-    (Searched net h order q.start q.destination q.tick list') list list' table table' held held'
+    (Searched net h q.start q.destination q.tick list') list list' table table' held held'
 
 abbrev pub DepartsAt : Meaning → (ℕ → ℕ) → ℕ → Question → List ℕ → List ℕ → List ℕ → List ℕ → (ℕ → Option ℕ) → (ℕ → Option ℕ) → Reply → Type 0
 DepartsAt net h capacity q list list' table table' held held' =

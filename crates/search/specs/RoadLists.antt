@@ -1,27 +1,21 @@
 -- Road lists by the labels of a search.
-use Rattle.std.specs.Prelude.{ℕ, ◌-◌, ◌≤◌, List, reverse, length, Option}
+use Rattle.std.specs.Prelude.{◌≡◌, ℕ, ◌≤◌, List, Some, None, Option, ◌≢◌, ◌⊎◌}
 use Rattle.network.specs.Meaning.{Meaning, IsPlace}
-use Rattle.search.specs.declared.roads.Order.{Order}
-use Rattle.search.specs.declared.roads.Order.TheVariants.{AsFound, Reversed}
-use Rattle.search.specs.Labels.{label, arrival_of, Early}
+use Rattle.search.specs.declared.roads.RoadsBack.{RoadsBack}
+use Rattle.search.specs.Labels.{label, Early, Sought}
 
--- the arrivals that the labels say
-abbrev pub arrivals_in : List ℕ → ℕ → Option ℕ
-arrivals_in cells v = arrival_of (label cells v)
-
--- a list in the order in which it was found
-abbrev pub in_order : Order → List ℕ → List ℕ
-in_order AsFound roads = roads
-in_order Reversed roads = reverse roads
-
--- the cell for the road that was found after i others, of n
-abbrev pub spot : Order → ℕ → ℕ → ℕ
-spot AsFound n i = i
-spot Reversed n i = n - 1 - i
-
--- v is a place with a label, in a table that has a label for each place
+-- v is a place with a label, in a table whose labels are early
 pub record Labelled (net : Meaning) (cells : List ℕ) (v : ℕ) : Type 0 where
   pub place : IsPlace net v
   pub there : 1 ≤ label cells v
-  pub long : net.places ≤ length cells
   pub early : Early net.places cells
+
+-- The next road of a walk from place v back to the start s: the lowest link that fits there, from whose tail the walk goes on. It
+-- ends at the start, and where no link fits.
+abbrev pub GoesBack : Meaning → List ℕ → ℕ → ℕ → Option ℕ → ℕ → Type 0
+GoesBack net cells s v None v' = (v ≡ s) ⊎ Sought net cells v None
+GoesBack net cells s v (Some k) v' = (v ≢ s) × Sought net cells v (Some k) × (v' ≡ net.tail k)
+
+-- what such a walk gives, and that it stays on its network, its labels and its start
+abbrev pub back_steps : {N : Type 0} → (N → Meaning) → RoadsBack N → Option ℕ → RoadsBack N → Type 0
+back_steps meaning s r t = (t.net ≡ s.net) × (t.cells ≡ s.cells) × (t.start ≡ s.start) × GoesBack (meaning s.net.now) s.cells.now s.start s.at r t.at

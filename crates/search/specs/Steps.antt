@@ -1,5 +1,5 @@
 -- What the loops of a search keep.
-use Rattle.std.specs.Prelude.{◌≡◌, ℕ, zero, suc, ◌+◌, ◌-◌, ◌<◌, ◌≤◌, ◌⊎◌, List, Some, None, Option, ◌≢◌}
+use Rattle.std.specs.Prelude.{◌≡◌, ℕ, zero, suc, ◌+◌, ◌<◌, ◌≤◌, ◌⊎◌, List, Some, None, Option, ◌≢◌}
 use Rattle.network.specs.Meaning.{Meaning, IsPlace, IsLink}
 use Rattle.queues.specs.Queue.{lowered}
 use Rattle.search.specs.Labels.{By, Within, Sound, Untouched, Fits, label}
@@ -16,11 +16,6 @@ Before at k = 1 ≤ at → k < at
 -- a walk over the links whose end is p has come to the link `at`; 0 is the walk's end
 abbrev pub AtLink : Meaning → (ℕ → ℕ) → ℕ → ℕ → Type 0
 AtLink net end p at = 1 ≤ at → IsLink net at × (end at ≡ p)
-
--- how many links a walk has yet to come to, at most
-abbrev pub links_left : ℕ → ℕ → ℕ
-links_left links zero = 0
-links_left links (suc k) = links - k
 
 -- what is kept of a place that is held with a key
 pub record Keyed (net : Meaning) (h : ℕ → ℕ) (cells : List ℕ) (v key : ℕ) : Type 0 where
@@ -88,7 +83,7 @@ pub record Walking (net : Meaning) (h : ℕ → ℕ) (p a at : ℕ) (cells cells
   pub tail_free : held' p ≡ None
 
 -- each place whose label is, with the estimate, within the bound has its links relaxed
-abbrev pub Settled : Meaning → (ℕ → ℕ) → ℕ → List ℕ → Type 0
+abbrev pub Settled : Meaning → (ℕ → ℕ) → Option ℕ → List ℕ → Type 0
 Settled net h bound cells = (k a : ℕ) → IsLink net k → label cells (net.tail k) ≡ suc a → Within bound (a + h (net.tail k)) → Relaxed (label cells (net.head k)) (net.arrival k a)
 
 -- a walk over the links into place v has come to the link `at`, and passed none that fits

@@ -1,5 +1,5 @@
 // Both questions, over any network, with any queue and any estimate.
-ghost use Rattle.std.specs.Prelude.{◌≡◌, ◌≤◌, drop};
+ghost use Rattle.std.specs.Prelude.{◌≡◌, ◌≤◌, length, drop, Some, None, MatchResult};
 ghost use Rattle.network.specs.Meaning.{IsPlace};
 ghost use Rattle.queues.specs.Queue.{Empty};
 ghost use Rattle.search.specs.Labels.{Room, Untouched};
@@ -7,45 +7,44 @@ ghost use Rattle.search.specs.Estimate.{Fit};
 ghost use Rattle.search.specs.Question.{ArrivesBy, Asks, DepartsAt, Searched, back_tick, counted_back, filled, refusal_of};
 
 use crate::estimate::Estimate;
-use crate::labels::taken;
+use crate::labels::{arrival, taken};
 use crate::question::{Answer, Question};
 use crate::relax::search;
-use crate::roads::{Order, count_roads, write_roads};
+use crate::roads::{count_roads, write_roads};
 use crate::work::Work;
 use layers::turned::Turned;
 use network::{Network, among};
 use queues::Queue;
 use refusals::refusal::Refusal;
 
-// What refuses a question before the search.
-fn refusal<N: Network, Q: Queue>(
+// Refuses a question before the search.
+#[tactic(auto, unfolding(crate::specs::Question::refusal_of))]
+fn admit<N: Network, Q: Queue>(
     net: &N,
     queue: &Q,
     table: usize,
     question: Question,
-) -> Option<Refusal>
-    ensures { result ≡ refusal_of (N.Network.meaning net.now) table (Q.Queue.capacity queue.now) question.start question.destination question.tick }
+) -> Result<(), Refusal>
+    ensures { let refusal = refusal_of (N.Network.meaning net.now) table (Q.Queue.capacity queue.now) question.start question.destination question.tick in MatchResult result (λ _. refusal ≡ None) (λ r. refusal ≡ Some r) }
 {
     let places = net.places();
-    if !among(question.start, places) {
-        return Some(Refusal::NoPlace);
-    }
-    if !among(question.destination, places) {
-        return Some(Refusal::NoPlace);
+    if !among(question.start, places) || !among(question.destination, places) {
+        return Err(Refusal::NoPlace);
     }
     if question.tick > net.last_tick() {
-        return Some(Refusal::NoTick);
+        return Err(Refusal::NoTick);
     }
     if table < places as usize {
-        return Some(Refusal::ShortTable);
+        return Err(Refusal::ShortTable);
     }
     if queue.capacity() < places as usize {
-        return Some(Refusal::ShortQueue);
+        return Err(Refusal::ShortQueue);
     }
-    None
+    Ok(())
 }
 
-// The answer to a question that is not refused before the search; the labels stay in the cells.
+// The answer to a question that is not refused before the search; the labels stay in the cells, and the roads stand as they are
+// found, from the destination back.
 fn answer<N: Network, E: Estimate, Q: Queue>(
     net: &N,
     estimate: &E,
@@ -53,45 +52,38 @@ fn answer<N: Network, E: Estimate, Q: Queue>(
     cells: &mut [u32],
     list: &mut [u32],
     question: Question,
-    order: Order,
 ) -> Result<Answer, Refusal>
     requires start { IsPlace (N.Network.meaning net.now) question.start }
     requires destination { IsPlace (N.Network.meaning net.now) question.destination }
     requires tick { question.tick ≤ (N.Network.meaning net.now).last }
     requires room { Room (N.Network.meaning net.now) cells.old (Q.Queue.capacity queue.old) }
-    ensures told { Fit (N.Network.meaning net.now) (E.Estimate.ahead estimate.now) question.destination → Searched (N.Network.meaning net.now) (E.Estimate.ahead estimate.now) order question.start question.destination question.tick list.new result }
+    ensures told { Fit (N.Network.meaning net.now) (E.Estimate.ahead estimate.now) question.destination → Searched (N.Network.meaning net.now) (E.Estimate.ahead estimate.now) question.start question.destination question.tick list.new result }
+    ensures within { filled result ≤ length list.old }
     ensures list { drop (filled result) list.new ≡ drop (filled result) list.old }
     ensures untouched { Untouched (N.Network.meaning net.now).places cells.old cells.new }
     ensures capacity { Q.Queue.capacity queue.new ≡ Q.Queue.capacity queue.old }
     ensures empty { Empty (Q.Queue.held queue.new) }
 {
-    search(
-        net,
-        estimate,
-        queue,
-        cells,
-        question.start,
-        question.tick,
-        question.destination,
-    );
-    let label = cells[question.destination as usize - 1];
-    let taken = taken(estimate, cells, net.places(), label);
-    if label == 0 {
+    let Question {
+        start,
+        destination,
+        tick,
+    } = question;
+    search(net, estimate, queue, cells, start, tick, Some(destination));
+    let reached = arrival(cells, destination);
+    let taken = taken(estimate, cells, net.places(), reached);
+    let Some(tick) = reached else {
         return Ok(Answer::NoWay { taken });
-    }
-    let roads = count_roads(net, cells, question.start, question.destination);
+    };
+    let roads = count_roads(net, cells, start, destination);
     if roads as usize > list.len() {
         return Err(Refusal::ShortList { needed: roads });
     }
-    write_roads(net, cells, list, question.destination, roads, order);
-    Ok(Answer::Found {
-        tick: label - 1,
-        roads,
-        taken,
-    })
+    write_roads(net, cells, &mut list[..roads as usize], start, destination);
+    Ok(Answer::Found { tick, roads, taken })
 }
 
-// Asks over the network that is searched; the roads come in the order asked for.
+// Asks over the network that is searched; the roads stand as they are found, from the destination back.
 fn ask<N: Network, E: Estimate, Q: Queue>(
     net: &N,
     estimate: &E,
@@ -99,19 +91,17 @@ fn ask<N: Network, E: Estimate, Q: Queue>(
     table: &mut [u32],
     list: &mut [u32],
     question: Question,
-    order: Order,
 ) -> Result<Answer, Refusal>
-    ensures asked { Asks (N.Network.meaning net.now) (E.Estimate.ahead estimate.now) order (Q.Queue.capacity queue.old) question list.old list.new table.old table.new (Q.Queue.held queue.old) (Q.Queue.held queue.new) result }
+    ensures asked { Asks (N.Network.meaning net.now) (E.Estimate.ahead estimate.now) (Q.Queue.capacity queue.old) question list.old list.new table.old table.new (Q.Queue.held queue.old) (Q.Queue.held queue.new) result }
+    ensures within { filled result ≤ length list.old }
     ensures capacity { Q.Queue.capacity queue.new ≡ Q.Queue.capacity queue.old }
 {
-    if let Some(refusal) = refusal(net, queue, table.len(), question) {
-        return Err(refusal);
-    }
+    admit(net, queue, table.len(), question)?;
     let work = Work {
         cells: table,
         count: net.places(),
     };
-    answer(net, estimate, queue, work.cells, list, question, order)
+    answer(net, estimate, queue, work.cells, list, question)
 }
 
 // Leaving the start at the tick, how soon is one at the destination, and by which roads.
@@ -126,29 +116,30 @@ pub fn depart_at<N: Network, E: Estimate, Q: Queue>(
     ensures asked { DepartsAt (N.Network.meaning net.now) (E.Estimate.ahead estimate.now) (Q.Queue.capacity queue.old) question list.old list.new table.old table.new (Q.Queue.held queue.old) (Q.Queue.held queue.new) result }
     ensures capacity { Q.Queue.capacity queue.new ≡ Q.Queue.capacity queue.old }
 {
-    ask(net, estimate, queue, table, list, question, Order::Reversed)
+    let answer = ask(net, estimate, queue, table, list, question)?;
+    list[..answer.roads() as usize].reverse();
+    Ok(answer)
 }
 
 // A tick counted back from the last; one above the last stays above it.
-fn counted_back(last: u32, tick: u32) -> u32
+fn back_tick(last: u32, tick: u32) -> u32
     requires { last ≤ 604800 }
     ensures { result ≡ back_tick last tick }
 {
-    if tick > last { last + 1 } else { last - tick }
+    last.checked_sub(tick).unwrap_or(last + 1)
 }
 
 // The reply of a search on the turned network, with its tick counted back.
-fn turned_reply(last: u32, reply: Result<Answer, Refusal>) -> Result<Answer, Refusal>
+fn counted_back(last: u32, reply: Result<Answer, Refusal>) -> Result<Answer, Refusal>
     ensures { result ≡ counted_back last reply }
 {
-    match reply {
-        Ok(Answer::Found { tick, roads, taken }) => Ok(Answer::Found {
+    match reply? {
+        Answer::Found { tick, roads, taken } => Ok(Answer::Found {
             tick: last.saturating_sub(tick),
             roads,
             taken,
         }),
-        Ok(Answer::NoWay { taken }) => Ok(Answer::NoWay { taken }),
-        Err(refusal) => Err(refusal),
+        no_way => Ok(no_way),
     }
 }
 
@@ -168,17 +159,9 @@ pub fn arrive_by<N: Network, E: Estimate, Q: Queue>(
     let backward = Question {
         start: question.destination,
         destination: question.start,
-        tick: counted_back(last, question.tick),
+        tick: back_tick(last, question.tick),
     };
     let turned = Turned::new(net);
-    let reply = ask(
-        &turned,
-        estimate,
-        queue,
-        table,
-        list,
-        backward,
-        Order::AsFound,
-    );
-    turned_reply(last, reply)
+    let reply = ask(&turned, estimate, queue, table, list, backward);
+    counted_back(last, reply)
 }

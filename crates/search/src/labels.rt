@@ -1,24 +1,30 @@
 // The table of labels, one for each place, from place 1 on.
-ghost use Rattle.std.specs.Prelude.{◌≤◌, length};
+ghost use Rattle.std.specs.Prelude.{◌≡◌, ◌≤◌, length};
 ghost use Rattle.network.specs.Meaning.{Among};
-ghost use Rattle.search.specs.Labels.{Early, Lowers, NearIn, Past, Tells, Wiped, label};
+ghost use Rattle.search.specs.Labels.{Lowers, NearIn, Past, Tells, Wiped, arrivals_in, goal_arrival, is_near};
 ghost use Rattle.search.specs.Counting.{Count};
 
 use crate::estimate::Estimate;
 
-// Lowers the label of a place to an arrival, if that is earlier, and says whether it did.
-pub(crate) fn lower(cells: &mut [u32], place: u32, arrival: u32) -> bool
-    requires place { Among place (length cells.old) }
-    requires early { arrival ≤ 604800 }
-    ensures { Lowers cells.old cells.new place arrival result }
+// The arrival that a place's label says, or none.
+pub(crate) fn arrival(cells: &[u32], place: u32) -> Option<u32>
+    ensures { result ≡ arrivals_in cells.now place }
 {
-    let i = place as usize - 1;
-    let old = cells[i];
-    if old != 0 && old <= arrival + 1 {
-        return false;
+    let index = place.checked_sub(1)?;
+    cells.get(index as usize)?.checked_sub(1)
+}
+
+// Lowers the label of a place to an arrival, if that is earlier, and says whether it did.
+pub(crate) fn lower(cells: &mut [u32], place: u32, tick: u32) -> bool
+    requires place { Among place (length cells.old) }
+    requires early { tick ≤ 604800 }
+    ensures { Lowers cells.old cells.new place tick result }
+{
+    let earlier = arrival(cells, place).is_none_or(|old| tick < old);
+    if earlier {
+        cells[place as usize - 1] = tick + 1;
     }
-    cells[i] = arrival + 1;
-    true
+    earlier
 }
 
 // Takes the labels of the first places out of a table.
@@ -26,47 +32,38 @@ pub(crate) fn wipe(cells: &mut [u32], count: u32)
     requires { count ≤ length cells.old }
     ensures { Wiped count cells.old cells.new }
 {
-    for i in 0..count {
-        cells[i as usize] = 0;
-    }
+    cells[..count as usize].fill(0);
 }
 
-// Says whether a key is past the label of the goal, where a goal is given.
-pub(crate) fn past(cells: &[u32], goal: u32, key: u32) -> bool
-    requires { goal ≤ length cells.now }
-    ensures { Tells (Past (label cells.now goal) key) result }
+// Says whether a key is past the arrival at the goal, where a goal is given.
+pub(crate) fn past(cells: &[u32], goal: Option<u32>, key: u32) -> bool
+    ensures { Tells (Past (goal_arrival cells.now goal) key) result }
 {
-    if goal == 0 {
+    goal.and_then(|goal| arrival(cells, goal))
+        .is_some_and(|bound| bound < key)
+}
+
+// Whether a place has a label that is, with the estimate, within a limit.
+fn is_near<E: Estimate>(estimate: &E, cells: &[u32], place: u32, limit: Option<u32>) -> bool
+    ensures { result ≡ is_near (E.Estimate.ahead estimate.now) limit place (arrivals_in cells.now place) }
+{
+    let Some(tick) = arrival(cells, place) else {
         return false;
-    }
-    let bound = cells[goal as usize - 1];
-    bound != 0 && bound <= key
+    };
+    let near = u64::from(tick) + u64::from(estimate.ahead(place));
+    limit.is_none_or(|limit| near <= u64::from(limit))
 }
 
-// Says whether a place's label is, with the estimate, within a bound.
-fn near<E: Estimate>(estimate: &E, cells: &[u32], place: u32, bound: u32) -> bool
-    requires place { Among place (length cells.now) }
-    requires early { label cells.now place ≤ 604801 }
-    ensures { Tells (NearIn (E.Estimate.ahead estimate.now) bound cells.now place) result }
+// How many of the first places have a label that is, with the estimate, within a limit.
+pub(crate) fn taken<E: Estimate>(
+    estimate: &E,
+    cells: &[u32],
+    places: u32,
+    limit: Option<u32>,
+) -> u32
+    ensures { Count (NearIn (E.Estimate.ahead estimate.now) limit cells.now) places result }
 {
-    let own = cells[place as usize - 1];
-    if own == 0 {
-        return false;
-    }
-    bound == 0 || own - 1 + estimate.ahead(place) < bound
-}
-
-// How many of the first places have a label that is, with the estimate, within a bound.
-pub(crate) fn taken<E: Estimate>(estimate: &E, cells: &[u32], places: u32, bound: u32) -> u32
-    requires long { places ≤ length cells.now }
-    requires early { Early places cells.now }
-    ensures { Count (NearIn (E.Estimate.ahead estimate.now) bound cells.now) places result }
-{
-    let mut count = 0;
-    for i in 0..places {
-        if near(estimate, cells, i + 1, bound) {
-            count += 1;
-        }
-    }
-    count
+    (1..=places)
+        .filter(|place| is_near(estimate, cells, *place, limit))
+        .count() as u32
 }

@@ -4,6 +4,7 @@
 mod ask;
 pub mod estimate;
 mod labels;
+mod links;
 pub mod question;
 mod relax;
 mod roads;

@@ -1,4 +1,6 @@
 // A question and its answer.
+ghost use Rattle.std.specs.Prelude.{◌≡◌};
+ghost use Rattle.search.specs.Question.{filled};
 
 #[derive(Clone, Copy)]
 pub struct Question {
@@ -12,4 +14,16 @@ pub struct Question {
 pub enum Answer {
     Found { tick: u32, roads: u32, taken: u32 },
     NoWay { taken: u32 },
+}
+
+impl Answer {
+    // How many roads stand at the front of the list.
+    pub(crate) fn roads(self) -> u32
+        ensures { result ≡ filled (Ok self) }
+    {
+        match self {
+            Answer::Found { roads, .. } => roads,
+            Answer::NoWay { .. } => 0,
+        }
+    }
 }

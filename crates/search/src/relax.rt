@@ -7,7 +7,8 @@ ghost use Rattle.search.specs.Labels.{Found, Room, Sound, Untouched, label};
 ghost use Rattle.search.specs.Steps.{State, Step, Walk};
 
 use crate::estimate::Estimate;
-use crate::labels::{lower, past, wipe};
+use crate::labels::{arrival, lower, past, wipe};
+use crate::links::{Links, Side};
 use network::Network;
 use queues::Queue;
 
@@ -51,11 +52,11 @@ fn relax_out<N: Network, E: Estimate, Q: Queue>(
     ensures capacity { Q.Queue.capacity queue.new ≡ Q.Queue.capacity queue.old }
     ensures walk { Walk (N.Network.meaning net.now) (E.Estimate.ahead estimate.now) place 0 cells.old cells.new (Q.Queue.held queue.old) (Q.Queue.held queue.new) }
 {
-    let tick = cells[place as usize - 1] - 1;
-    let mut link = net.first_out(place);
-    while link != 0 {
+    let Some(tick) = arrival(cells, place) else {
+        return;
+    };
+    for link in Links::new(net, Side::Out, place) {
         relax(net, estimate, queue, cells, link, tick);
-        link = net.next_out(link);
     }
 }
 
@@ -82,7 +83,7 @@ fn begin<N: Network, E: Estimate, Q: Queue>(
 }
 
 // With a consistent estimate, labels each place with its earliest arrival from the start at the tick; where a goal is given, at least
-// each place whose arrival is, with the estimate, no later than the goal's. A goal of 0 is none.
+// each place whose arrival is, with the estimate, no later than the goal's.
 pub(crate) fn search<N: Network, E: Estimate, Q: Queue>(
     net: &N,
     estimate: &E,
@@ -90,11 +91,10 @@ pub(crate) fn search<N: Network, E: Estimate, Q: Queue>(
     cells: &mut [u32],
     start: u32,
     tick: u32,
-    goal: u32,
+    goal: Option<u32>,
 )
     requires start { IsPlace (N.Network.meaning net.now) start }
     requires tick { tick ≤ (N.Network.meaning net.now).last }
-    requires goal { goal ≤ (N.Network.meaning net.now).places }
     requires room { Room (N.Network.meaning net.now) cells.old (Q.Queue.capacity queue.old) }
     ensures sound { Sound (N.Network.meaning net.now) start tick cells.new }
     ensures found { Consistent (N.Network.meaning net.now) (E.Estimate.ahead estimate.now) → Found (N.Network.meaning net.now) (E.Estimate.ahead estimate.now) start tick goal cells.new }

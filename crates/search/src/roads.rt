@@ -1,28 +1,49 @@
 // The road list, found backward by the labels of a search.
-ghost use Rattle.std.specs.Prelude.{◌≡◌, ℕ, ◌<◌, ◌≤◌, List, length, take, drop};
+ghost use Rattle.std.specs.Prelude.{◌≡◌, ℕ, ◌≤◌, List, length};
+ghost use Rattle.std.specs.Iterator.{at_most};
 ghost use Rattle.journeys.specs.Roads.{Back};
-ghost use Rattle.search.specs.RoadLists.{Labelled, arrivals_in, in_order, spot};
+ghost use Rattle.search.specs.Labels.{arrivals_in, label};
+ghost use Rattle.search.specs.RoadLists.{Labelled, back_steps};
 
 use crate::seek::seek;
 use network::Network;
 
-// How a list is handed over: in the order in which it is found, from the end back, or reversed.
-#[derive(Clone, Copy)]
-pub(crate) enum Order {
-    AsFound,
-    Reversed,
+// The roads from a place back to the start.
+#[derive(Drop)]
+pub(crate) struct RoadsBack<'a, N> {
+    net: &'a N,
+    cells: &'a [u32],
+    start: u32,
+    at: u32,
 }
 
-impl Order {
-    // The cell for the road that was found after i others, of count.
-    fn spot(self, count: u32, i: u32) -> u32
-        requires { i < count }
-        ensures { result ≡ spot self count i }
+impl<'a, N: Network> RoadsBack<'a, N> {
+    pub(crate) fn new(net: &'a N, cells: &'a [u32], start: u32, place: u32) -> RoadsBack<'a, N>
+        ensures { result ≡ record { net = net.entry; cells = cells.entry; start = start; at = place } }
     {
-        match self {
-            Order::AsFound => i,
-            Order::Reversed => count - 1 - i,
+        RoadsBack {
+            net,
+            cells,
+            start,
+            at: place,
         }
+    }
+}
+
+impl<'a, N: Network> Iterator for RoadsBack<'a, N> {
+    type Item = u32;
+
+    ghost next_gives = { back_steps N.Network.meaning };
+
+    ghost remaining = { λ s. at_most (label s.cells.now s.at) };
+
+    fn next(&mut self) -> Option<u32> {
+        if self.at == self.start {
+            return None;
+        }
+        let link = seek(self.net, self.cells, self.at)?;
+        self.at = self.net.tail(link);
+        Some(link)
     }
 }
 
@@ -31,40 +52,25 @@ pub(crate) fn count_roads<N: Network>(net: &N, cells: &[u32], start: u32, place:
     requires labelled { Labelled (N.Network.meaning net.now) cells.now place }
     ensures { (back : List ℕ) → Back (N.Network.meaning net.now) (arrivals_in cells.now) start place back → result ≡ length back }
 {
-    let mut at = place;
-    let mut count = 0;
-    while at != start {
-        let link = seek(net, cells, at);
-        if link == 0 {
-            return count;
-        }
-        at = net.tail(link);
-        count += 1;
-    }
-    count
+    RoadsBack::new(net, cells, start, place).count() as u32
 }
 
-// Writes the roads from a place back to the start to the front of a list.
+// Writes the roads from a place back to the start to a list.
 pub(crate) fn write_roads<N: Network>(
     net: &N,
     cells: &[u32],
     list: &mut [u32],
+    start: u32,
     place: u32,
-    count: u32,
-    order: Order,
 )
     requires labelled { Labelled (N.Network.meaning net.now) cells.now place }
-    requires room { count ≤ length list.old }
-    ensures roads { (s : ℕ) (back : List ℕ) → Back (N.Network.meaning net.now) (arrivals_in cells.now) s place back → count ≡ length back → in_order order (take count list.new) ≡ back }
-    ensures rest { drop count list.new ≡ drop count list.old }
+    ensures { (back : List ℕ) → Back (N.Network.meaning net.now) (arrivals_in cells.now) start place back → length list.old ≡ length back → list.new ≡ back }
 {
-    let mut at = place;
-    for i in 0..count {
-        let link = seek(net, cells, at);
-        if link == 0 {
+    let mut roads = RoadsBack::new(net, cells, start, place);
+    for cell in list.iter_mut() {
+        let Some(road) = roads.next() else {
             return;
-        }
-        list[order.spot(count, i) as usize] = link;
-        at = net.tail(link);
+        };
+        *cell = road;
     }
 }

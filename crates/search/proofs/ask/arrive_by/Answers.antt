@@ -1,4 +1,4 @@
-use Rattle.std.proofs.Common.{ap, ◌∙◌}
+use Rattle.std.proofs.Common.{ap}
 use Rattle.journeys.specs.Turned.{turned}
 use Rattle.search.proofs.Replies.{asked_by}
 use Rattle.search.proofs.ask.arrive_by.Goals as goal
@@ -7,7 +7,7 @@ pub returns : goal.returns
 returns g c = record {
   asked =
       asked_by (g.N.Network.meaning c.args.net.now) (g.met.N.Network.lawful c.args.net.now) (g.E.Estimate.ahead c.args.estimate.now) c.args.question.start c.args.question.destination c.args.question.tick _ _ _ _ _ _ _ _
-      _ c.last_tick-last.result c.counted_back.result c.ask-reply.result c.turned_reply.result
-      (ap (λ x. turned (g.N.Network.meaning x.now)) c.new-turned.ensures) c.last_tick-last.ensures c.counted_back.ensures c.turned_reply.ensures c.ask-reply.ensures.asked;
+      _ c.last_tick-last.result c.back_tick.result c.ask-reply.result c.counted_back.result
+      (ap (λ x. turned (g.N.Network.meaning x.now)) c.new-turned.ensures) c.last_tick-last.ensures c.back_tick.ensures c.counted_back.ensures c.ask-reply.ensures.asked;
   capacity = c.ask-reply.ensures.capacity;
 }

@@ -1,17 +1,14 @@
-use Rattle.std.proofs.Common.{arith}
-use Rattle.search.specs.Counting.Count.{nothing}
-use Rattle.search.proofs.Goals.{count_yes, count_no, count_all}
+use Rattle.std.proofs.Common.{sym, ◌∙◌, subst, arith, rules, tests}
+use Rattle.std.proofs.lemmas.Iterator.Consumers.{YieldsList-at, YieldsList-from_filter, count_from_yields_List}
+use Rattle.queues.proofs.Inclusive.{inclusive_left, YieldsList-from_inclusive}
+use Rattle.search.specs.Labels.{NearIn, arrivals_in, is_near}
+use Rattle.search.specs.Counting.{Count}
+use Rattle.search.proofs.Goals.{count_passing, near_yes, near_no}
 use Rattle.search.proofs.labels.taken.Goals as goal
-use Rattle.search.proofs.labels.taken.Goals.{then-near, else-near}
-
-pub loop-i-init : goal.loop-i-init
-loop-i-init g c = (omega arith, nothing)
-
-pub loop-i-preserved : goal.loop-i-preserved
-loop-i-preserved g c = elim c.if-near.branch [
-  | then-near w ↦ (omega (arith, w.count-is, c.loop-i.invariant.0), count_yes _ _ _ _ (c.near.ensures.yes w.if-near.true) c.loop-i.invariant.1 w.count-is)
-  | else-near w ↦ (omega (arith, w.count-is, c.loop-i.invariant.0), count_no _ _ _ _ (c.near.ensures.no w.if-near.false) c.loop-i.invariant.1 w.count-is)
-]
 
 pub returns : goal.returns
-returns g c = count_all _ _ _ _ (omega arith) c.loop-i.invariant.1
+returns g c =
+    let h = g.E.Estimate.ahead c.args.estimate.now in
+    let cells = c.args.cells.now in
+    let counted = count_from_yields_List c.filter.result _ c.count.ensures.ran (YieldsList-from_filter _ (λ v. is_near h c.args.limit v (arrivals_in cells v)) (YieldsList-at c.filter.ensures.source (YieldsList-from_inclusive 1 c.args.places c.new.ensures.start (inclusive_left c.new.result 1 c.args.places c.new.ensures.start c.new.ensures.end c.new.ensures.exhausted ∙ omega arith))) c.filter.ensures.closure (λ x b q k. search (rules, tests))) in
+    subst (Count (NearIn h c.args.limit cells) c.args.places) (sym counted) (count_passing (NearIn h c.args.limit cells) (λ v. is_near h c.args.limit v (arrivals_in cells v)) (λ v. near_yes h c.args.limit v _) (λ v. near_no h c.args.limit v _) c.args.places)

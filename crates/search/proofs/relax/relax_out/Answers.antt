@@ -1,20 +1,42 @@
-use Rattle.std.proofs.Common.{refl, ◌∙◌, arith}
-use Rattle.search.proofs.Tables.{label_read}
-use Rattle.search.proofs.Walks.{walk_falls}
+use Rattle.std.proofs.Common.{Some, sym, refl, ap, ◌∙◌, subst, arith}
+use Rattle.network.specs.Meaning.{IsLink}
+use Rattle.search.specs.declared.links.Side.TheVariants.{Out}
+use Rattle.search.proofs.Tables.{arrival_some, label_time}
+use Rattle.search.proofs.Walks.{comes}
 use Rattle.search.proofs.Relaxing.{walk_start, walk_more}
 use Rattle.search.proofs.relax.relax_out.Goals as goal
 
 pub loop-link-init : goal.loop-link-init
 loop-link-init g c =
-    (refl, walk_start c.first_out-link.ensures c.requires.place (omega (arith, label_read c.args.cells.now c.args.place c.requires.place.low, c.requires.labelled)) c.requires.taken)
+    let same = c.into_iter-link-iterator.ensures.into_iter_gives in
+    let links = c.new-link-items.ensures in
+    record {
+      over = ap (λ l. g.N.Network.meaning l.net.now) same ∙ ap (λ r. g.N.Network.meaning r.now) links.network;
+      out = ap (λ l. l.side) same ∙ links.side;
+      capacity = refl;
+      walking = walk_start (ap (λ l. l.next) same ∙ links.first) c.requires.place (arrival_some _ _ (sym c.arrival.ensures ∙ c.in-Some.is)) c.requires.taken;
+    }
 
-pub loop-link-smaller : goal.loop-link-smaller
-loop-link-smaller g c =
-    let net = g.N.Network.meaning c.args.net.now in
-    walk_falls net net.tail (c.loop-link.invariant.1.link (omega (arith, c.loop-link-test.true))).0 c.next_out-link.ensures
+pub relax-requires : goal.relax-requires
+relax-requires g c =
+    let was = c.loop-link.invariant in
+    let come = comes g.N.Network.meaning Out _ _ (Some c.in-Some-link.link) was.over was.out c.in-Some-link.ensures.steps in
+    record {
+      link = subst (IsLink (g.N.Network.meaning c.args.net.now)) (sym come.0) (was.walking.link (omega (arith, come.0, come.1))).0;
+      tick = label_time c.args.cells.now c.args.place (sym c.arrival.ensures ∙ c.in-Some.is) c.requires.early;
+      room = record { cells = omega (arith, c.requires.room.cells, c.loop-link.auto.cells); queue = omega (arith, c.requires.room.queue, was.capacity) };
+    }
 
 pub loop-link-preserved : goal.loop-link-preserved
-loop-link-preserved g c = (
-  c.relax.ensures.capacity ∙ c.loop-link.invariant.0,
-  walk_more (g.met.N.Network.lawful c.args.net.now) (omega (arith, label_read c.args.cells.now c.args.place c.requires.place.low, c.requires.early)) c.loop-link.invariant.1 (omega (arith, c.loop-link-test.true)) c.relax.ensures.step c.next_out-link.ensures,
-)
+loop-link-preserved g c =
+    let laws = g.met.N.Network.lawful c.args.net.now in
+    let in_time = label_time c.args.cells.now c.args.place (sym c.arrival.ensures ∙ c.in-Some.is) c.requires.early in
+    let was = c.loop-link.invariant in
+    let step = c.in-Some-link.ensures.steps in
+    let come = comes g.N.Network.meaning Out _ _ (Some c.in-Some-link.link) was.over was.out step in
+    record {
+      over = ap (λ r. g.N.Network.meaning r.now) step.0 ∙ was.over;
+      out = step.1 ∙ was.out;
+      capacity = c.relax.ensures.capacity ∙ was.capacity;
+      walking = walk_more laws in_time was.walking come.0 come.1 c.relax.ensures.step come.2;
+    }
