@@ -1,13 +1,12 @@
 -- The refusals of a question before the search, test by test.
-use Rattle.std.proofs.Common.{◌≡◌, ℕ, ◌+◌, ◌-◌, ◌≤◌, Bool, true, false, cond, leb, List, Some, None, Err, Option, sym, refl, ap, ◌∙◌, ⊎_elim, arith}
+use Rattle.std.proofs.Common.{◌≡◌, ℕ, ◌+◌, ◌-◌, ◌≤◌, Bool, true, false, cond, leb, None, Option, sym, refl, ap, ◌∙◌, ⊎_elim, arith}
 use Rattle.std.proofs.lemmas.Bool.{cases_lt, le-leb, lt-leb, leb-true}
 use Rattle.network.specs.Meaning.{Meaning, Among, among}
 use Rattle.network.proofs.Ranges.{among_true}
 use Rattle.journeys.specs.Turned.{turned}
 use Rattle.refusals.specs.declared.refusal.Refusal.{Refusal}
 use Rattle.refusals.specs.declared.refusal.Refusal.TheVariants.{NoPlace, NoTick, ShortTable, ShortQueue}
-use Rattle.search.specs.Labels.{Untouched, Wiped}
-use Rattle.search.specs.Question.{unless, refusal_of, back_tick, Reply, Asked}
+use Rattle.search.specs.Question.{unless, refusal_of, back_tick}
 
 -- what holds where a question is not refused
 pub record Admitted (net : Meaning) (table capacity s d t : ℕ) : Type 0 where
@@ -30,25 +29,6 @@ admitted net table capacity s d t e =
     let f = unless_none _ ShortTable _ c.1 in
     let h = unless_none _ ShortQueue None f.1 in
     record { start = among_true _ _ a.0; destination = among_true _ _ b.0; tick = leb-true _ _ c.0; long = leb-true _ _ f.0; wide = leb-true _ _ h.0 }
-
--- what was lent, where a question is refused before the search
-pub refused_asked : (refused : Option Refusal) (places : ℕ) (fit : Type 0) (Told : Reply → Type 0) (list table : List ℕ) (held : ℕ → Option ℕ) (f : Refusal) → refused ≡ Some f → Asked refused places fit Told list list table table held held (Err f)
-refused_asked refused places fit Told list table held f e =
-    record {
-      refusal = λ r q. ap Err (let z : f ≡ r = cc in z);
-      untouched = λ r q. (refl, λ v. refl);
-      told = λ n _. absurd (never n);
-      wiped = λ n. absurd (never n);
-      empty = λ n. absurd (never n);
-      rest = refl;
-    }
-  where
-    never : refused ≡ None → ⊥
-    never n = let z : ◌≡◌ {A = ℕ} 0 1 = cc in omega arith
-
--- a table that a search used and that is then wiped is the table that was lent, wiped
-pub wiped_since : {n places : ℕ} {lent used left : List ℕ} → n ≡ places → Untouched places lent used → Wiped n used left → Wiped places lent left
-wiped_since {n} {places} {lent} {used} {left} e u w = record { front = λ v l. w.front v (omega arith); rest = λ v l. w.rest v (omega arith) ∙ u v l }
 
 either_order : (a b : Bool) (r : Refusal) (after : Option Refusal) → unless a r (unless b r after) ≡ unless b r (unless a r after)
 either_order true b r after = refl

@@ -139,7 +139,6 @@ module _ {net : Meaning} {h : ℕ → ℕ} {p a : ℕ} where
         walked = record {
           keeps = λ s t was. state_moves 1 at (λ j ij q b _. absurd (omega (arith, lowest_none net net.tail low ij q b, ij.low))) was;
           falls = λ v. omega arith;
-          untouched = λ v l. refl;
         };
         link = lowest_link net net.tail low;
         tail_label = reached;
@@ -159,7 +158,6 @@ module _ {net : Meaning} {h : ℕ → ℕ} {p a : ℕ} where
               (λ j ij q b _. omega (arith, lowest_none net net.tail low ij q b))
               (step_state laws did i in_time tail was.tail_label s t (was.walked.keeps s t began));
           falls = λ v. omega (arith, was.walked.falls v, step_rank laws did i in_time v);
-          untouched = λ v m. (did.others v (λ q. omega (arith, q, (laws.head k i).high))).same_label ∙ was.walked.untouched v m;
         };
         link = lowest_link net net.tail low;
         tail_label = kept.same_label ∙ was.tail_label;

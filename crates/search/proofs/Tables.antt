@@ -1,5 +1,7 @@
 -- Labels and limits, case by case.
 use Rattle.std.proofs.Common.{◌≡◌, ℕ, zero, suc, ◌+◌, ◌≤◌, ◌⊎◌, List, Some, None, Option, refl, ap, inl, inr, arith}
+use Rattle.std.proofs.Math.ListN.{replicate}
+use Rattle.std.proofs.lemmas.Grind.{common_steps}
 use Rattle.search.specs.Labels.{Within, label, arrival_of, arrivals_in}
 
 -- a label is none, or a tick and one
@@ -31,3 +33,8 @@ some_same e = cc
 -- a label that is early says an arrival that is
 pub label_time : {last : ℕ} (cells : List ℕ) (v : ℕ) {a : ℕ} → arrivals_in cells v ≡ Some a → label cells v ≤ last + 1 → a ≤ last
 label_time cells v e early = omega (arith, arrival_some (label cells v) _ e)
+
+-- a table of zeros has no label
+pub blank_label : (n v : ℕ) → label (replicate n 0) v ≡ 0
+blank_label n zero = refl
+blank_label n (suc i) = grind (arith, common_steps)

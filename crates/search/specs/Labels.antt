@@ -49,9 +49,9 @@ pub record Wiped (n : ℕ) (before after : List ℕ) : Type 0 where
   pub front : (v : ℕ) → v ≤ n → label after v ≡ 0
   pub rest : Untouched n before after
 
--- a table and a queue have room for each place of a network
+-- a table has a cell for each place of a network, and a queue room for each
 pub record Room (net : Meaning) (table : List ℕ) (capacity : ℕ) : Type 0 where
-  pub cells : net.places ≤ length table
+  pub cells : length table ≡ net.places
   pub queue : net.places ≤ capacity
 
 -- a number is at most a limit, where there is one

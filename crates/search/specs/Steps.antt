@@ -2,7 +2,7 @@
 use Rattle.std.specs.Prelude.{◌≡◌, ℕ, zero, suc, ◌+◌, ◌<◌, ◌≤◌, ◌⊎◌, List, Some, None, Option, ◌≢◌}
 use Rattle.network.specs.Meaning.{Meaning, IsPlace, IsLink}
 use Rattle.queues.specs.Queue.{lowered}
-use Rattle.search.specs.Labels.{By, Within, Sound, Untouched, Fits, label}
+use Rattle.search.specs.Labels.{By, Within, Sound, Fits, label}
 
 -- a label is there and is no later than an arrival, where there is one
 abbrev pub Relaxed : ℕ → Option ℕ → Type 0
@@ -73,7 +73,6 @@ pub record Step (net : Meaning) (h : ℕ → ℕ) (k a : ℕ) (cells cells' : Li
 pub record Walk (net : Meaning) (h : ℕ → ℕ) (p at : ℕ) (cells cells' : List ℕ) (held held' : ℕ → Option ℕ) : Type 0 where
   pub keeps : (s t : ℕ) → State net h s t p 1 cells held → State net h s t p at cells' held'
   pub falls : (v : ℕ) → rank net.last cells' held' v ≤ rank net.last cells held v
-  pub untouched : Untouched net.places cells cells'
 
 -- A walk under way, from tick a: what it did, the link that it has come to, and that its place stays as it is.
 pub record Walking (net : Meaning) (h : ℕ → ℕ) (p a at : ℕ) (cells cells' : List ℕ) (held held' : ℕ → Option ℕ) : Type 0 where

@@ -2,7 +2,7 @@
 ghost use Rattle.std.specs.Prelude.{◌≡◌, ◌≤◌, length, drop, Some, None, MatchResult};
 ghost use Rattle.network.specs.Meaning.{IsPlace};
 ghost use Rattle.queues.specs.Queue.{Empty};
-ghost use Rattle.search.specs.Labels.{Room, Untouched};
+ghost use Rattle.search.specs.Labels.{Room};
 ghost use Rattle.search.specs.Estimate.{Fit};
 ghost use Rattle.search.specs.Question.{ArrivesBy, Asks, DepartsAt, Searched, back_tick, counted_back, filled, refusal_of};
 
@@ -43,8 +43,7 @@ fn admit<N: Network, Q: Queue>(
     Ok(())
 }
 
-// The answer to a question that is not refused before the search; the labels stay in the cells, and the roads stand as they are
-// found, from the destination back.
+// The answer to a question that is not refused before the search; the roads stand as they are found, from the destination back.
 fn answer<N: Network, E: Estimate, Q: Queue>(
     net: &N,
     estimate: &E,
@@ -60,7 +59,6 @@ fn answer<N: Network, E: Estimate, Q: Queue>(
     ensures told { Fit (N.Network.meaning net.now) (E.Estimate.ahead estimate.now) question.destination → Searched (N.Network.meaning net.now) (E.Estimate.ahead estimate.now) question.start question.destination question.tick list.new result }
     ensures within { filled result ≤ length list.old }
     ensures list { drop (filled result) list.new ≡ drop (filled result) list.old }
-    ensures untouched { Untouched (N.Network.meaning net.now).places cells.old cells.new }
     ensures capacity { Q.Queue.capacity queue.new ≡ Q.Queue.capacity queue.old }
     ensures empty { Empty (Q.Queue.held queue.new) }
 {
@@ -97,10 +95,8 @@ fn ask<N: Network, E: Estimate, Q: Queue>(
     ensures capacity { Q.Queue.capacity queue.new ≡ Q.Queue.capacity queue.old }
 {
     admit(net, queue, table.len(), question)?;
-    let work = Work {
-        cells: table,
-        count: net.places(),
-    };
+    let (cells, _) = table.split_at_mut(net.places() as usize);
+    let work = Work { cells };
     answer(net, estimate, queue, work.cells, list, question)
 }
 

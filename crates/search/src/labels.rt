@@ -1,7 +1,7 @@
 // The table of labels, one for each place, from place 1 on.
 ghost use Rattle.std.specs.Prelude.{◌≡◌, ◌≤◌, length};
 ghost use Rattle.network.specs.Meaning.{Among};
-ghost use Rattle.search.specs.Labels.{Lowers, NearIn, Past, Tells, Wiped, arrivals_in, goal_arrival, is_near};
+ghost use Rattle.search.specs.Labels.{Lowers, NearIn, Past, Tells, arrivals_in, goal_arrival, is_near};
 ghost use Rattle.search.specs.Counting.{Count};
 
 use crate::estimate::Estimate;
@@ -25,14 +25,6 @@ pub(crate) fn lower(cells: &mut [u32], place: u32, tick: u32) -> bool
         cells[place as usize - 1] = tick + 1;
     }
     earlier
-}
-
-// Takes the labels of the first places out of a table.
-pub(crate) fn wipe(cells: &mut [u32], count: u32)
-    requires { count ≤ length cells.old }
-    ensures { Wiped count cells.old cells.new }
-{
-    cells[..count as usize].fill(0);
 }
 
 // Says whether a key is past the arrival at the goal, where a goal is given.

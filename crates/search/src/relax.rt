@@ -3,11 +3,11 @@ ghost use Rattle.std.specs.Prelude.{◌≡◌, ◌+◌, ◌≤◌, None};
 ghost use Rattle.network.specs.Meaning.{IsLink, IsPlace};
 ghost use Rattle.queues.specs.Queue.{Empty};
 ghost use Rattle.search.specs.Estimate.{Consistent};
-ghost use Rattle.search.specs.Labels.{Found, Room, Sound, Untouched, label};
+ghost use Rattle.search.specs.Labels.{Found, Room, Sound, label};
 ghost use Rattle.search.specs.Steps.{State, Step, Walk};
 
 use crate::estimate::Estimate;
-use crate::labels::{arrival, lower, past, wipe};
+use crate::labels::{arrival, lower, past};
 use crate::links::{Links, Side};
 use network::Network;
 use queues::Queue;
@@ -74,9 +74,8 @@ fn begin<N: Network, E: Estimate, Q: Queue>(
     requires room { Room (N.Network.meaning net.now) cells.old (Q.Queue.capacity queue.old) }
     ensures capacity { Q.Queue.capacity queue.new ≡ Q.Queue.capacity queue.old }
     ensures state { State (N.Network.meaning net.now) (E.Estimate.ahead estimate.now) start tick 0 0 cells.new (Q.Queue.held queue.new) }
-    ensures untouched { Untouched (N.Network.meaning net.now).places cells.old cells.new }
 {
-    wipe(cells, net.places());
+    cells.fill(0);
     queue.clear();
     lower(cells, start, tick);
     queue.offer(start, tick + estimate.ahead(start));
@@ -98,7 +97,6 @@ pub(crate) fn search<N: Network, E: Estimate, Q: Queue>(
     requires room { Room (N.Network.meaning net.now) cells.old (Q.Queue.capacity queue.old) }
     ensures sound { Sound (N.Network.meaning net.now) start tick cells.new }
     ensures found { Consistent (N.Network.meaning net.now) (E.Estimate.ahead estimate.now) → Found (N.Network.meaning net.now) (E.Estimate.ahead estimate.now) start tick goal cells.new }
-    ensures untouched { Untouched (N.Network.meaning net.now).places cells.old cells.new }
     ensures capacity { Q.Queue.capacity queue.new ≡ Q.Queue.capacity queue.old }
     ensures empty { Empty (Q.Queue.held queue.new) }
 {

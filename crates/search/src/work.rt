@@ -1,21 +1,16 @@
 // The working table of a search, lent for as long as it lasts.
-ghost use Rattle.std.specs.Prelude.{◌≤◌, length};
-ghost use Rattle.search.specs.Labels.{Wiped};
+ghost use Rattle.std.specs.Prelude.{◌≡◌, length, replicate};
 
-use crate::labels::wipe;
-
-// A guard: the first `count` cells are zero again when it ends.
+// A guard over the cells of a search: they are zero again when it ends.
 pub(crate) struct Work<'a> {
     pub(crate) cells: &'a mut [u32],
-    pub(crate) count: u32,
 }
 
 impl Drop for Work<'_> {
     fn drop(self)
-        requires { self.count ≤ length self.cells.now }
-        ensures { Wiped self.entry.count self.entry.cells.now self.exit.0.now }
+        ensures { self.exit.0.now ≡ replicate (length self.entry.cells.now) 0 }
     {
-        let Work { cells, count } = self;
-        wipe(cells, count);
+        let Work { cells } = self;
+        cells.fill(0);
     }
 }

@@ -28,7 +28,6 @@ pub loop-key-preserved : goal.loop-key-preserved
 loop-key-preserved g c = (
   c.relax_out.ensures.capacity ∙ (c.in-Some.ensures.capacity ∙ c.loop-key.invariant.0),
   turn_state c.loop-key.invariant.1 c.in-Some.ensures.taken c.relax_out.ensures.walk,
-  λ v l. c.relax_out.ensures.walk.untouched v l ∙ c.loop-key.invariant.2 v l,
 )
 
 pub returns : goal.returns
@@ -42,7 +41,6 @@ returns g c =
             (past_settled was w.in-Some.ensures.taken.best _ (w.past.ensures.yes w.if-past.true))
         | in_default w ↦ found laws _ was (empty_settled was w.in_default.ensures.taken.0 _)
       ];
-      untouched = λ v l. c.loop-key.invariant.2 v l ∙ c.begin.ensures.untouched v l;
       capacity = c.clear.ensures.capacity ∙ (c.take.ensures.capacity ∙ (c.loop-key.invariant.0 ∙ c.begin.ensures.capacity));
       empty = c.clear.ensures.empty;
     }
