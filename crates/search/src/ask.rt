@@ -2,16 +2,16 @@
 ghost use Rattle.std.specs.Prelude.{◌≡◌, ◌≤◌, length, drop, Some, None, MatchResult};
 ghost use Rattle.network.specs.Meaning.{IsPlace};
 ghost use Rattle.queues.specs.Queue.{Empty};
-ghost use Rattle.search.specs.Labels.{Room};
+ghost use Rattle.search.specs.Labels.{Found, Sound};
+ghost use Rattle.search.specs.Lent.{Stays};
 ghost use Rattle.search.specs.Estimate.{Fit};
 ghost use Rattle.search.specs.Question.{ArrivesBy, Asks, DepartsAt, Searched, back_tick, counted_back, filled, refusal_of};
 
 use crate::estimate::Estimate;
 use crate::labels::{arrival, taken};
 use crate::question::{Answer, Question};
-use crate::relax::search;
 use crate::roads::{count_roads, write_roads};
-use crate::work::Work;
+use crate::work::{Search, Work};
 use layers::turned::Turned;
 use network::{Network, among};
 use queues::Queue;
@@ -43,50 +43,58 @@ fn admit<N: Network, Q: Queue>(
     Ok(())
 }
 
-// The answer to a question that is not refused before the search; the roads stand as they are found, from the destination back.
-fn answer<N: Network, E: Estimate, Q: Queue>(
-    net: &N,
-    estimate: &E,
-    queue: &mut Q,
-    cells: &mut [u32],
-    list: &mut [u32],
-    question: Question,
-) -> Result<Answer, Refusal>
-    requires start { IsPlace (N.Network.meaning net.now) question.start }
-    requires destination { IsPlace (N.Network.meaning net.now) question.destination }
-    requires tick { question.tick ≤ (N.Network.meaning net.now).last }
-    requires room { Room (N.Network.meaning net.now) cells.old (Q.Queue.capacity queue.old) }
-    ensures told { Fit (N.Network.meaning net.now) (E.Estimate.ahead estimate.now) question.destination → Searched (N.Network.meaning net.now) (E.Estimate.ahead estimate.now) question.start question.destination question.tick list.new result }
-    ensures within { filled result ≤ length list.old }
-    ensures list { drop (filled result) list.new ≡ drop (filled result) list.old }
-    ensures capacity { Q.Queue.capacity queue.new ≡ Q.Queue.capacity queue.old }
-    ensures empty { Empty (Q.Queue.held queue.new) }
-{
-    let Question {
-        start,
-        destination,
-        tick,
-    } = question;
-    search(net, estimate, queue, cells, start, tick, Some(destination));
-    let reached = arrival(cells, destination);
-    let taken = taken(estimate, cells, net.places(), reached);
-    let Some(tick) = reached else {
-        return Ok(Answer::NoWay { taken });
-    };
-    let roads = count_roads(net, cells, start, destination);
-    if roads as usize > list.len() {
-        return Err(Refusal::ShortList { needed: roads });
+impl<'a, N: Network, E: Estimate, Q: Queue> Search<'a, N, E, Q> {
+    // The answer by the labels of a search for the destination; the roads stand as they are found, from the destination back.
+    fn told(&self, list: &mut [u32], question: Question) -> Result<Answer, Refusal>
+        requires start { IsPlace (N.Network.meaning self.now.net.now) question.start }
+        requires destination { IsPlace (N.Network.meaning self.now.net.now) question.destination }
+        requires tick { question.tick ≤ (N.Network.meaning self.now.net.now).last }
+        requires sound { Sound (N.Network.meaning self.now.net.now) question.start question.tick self.now.labels.now }
+        ensures told { Fit (N.Network.meaning self.now.net.now) (E.Estimate.ahead self.now.estimate.now) question.destination → Found (N.Network.meaning self.now.net.now) (E.Estimate.ahead self.now.estimate.now) question.start question.tick (Some question.destination) self.now.labels.now → Searched (N.Network.meaning self.now.net.now) (E.Estimate.ahead self.now.estimate.now) question.start question.destination question.tick list.new result }
+        ensures within { filled result ≤ length list.old }
+        ensures list { drop (filled result) list.new ≡ drop (filled result) list.old }
+    {
+        let Question {
+            start,
+            destination,
+            ..
+        } = question;
+        let reached = arrival(self.labels, destination);
+        let taken = taken(self.estimate, self.labels, self.net.places(), reached);
+        let Some(tick) = reached else {
+            return Ok(Answer::NoWay { taken });
+        };
+        let roads = count_roads(self.net, self.labels, start, destination);
+        if roads as usize > list.len() {
+            return Err(Refusal::ShortList { needed: roads });
+        }
+        let front = &mut list[..roads as usize];
+        write_roads(self.net, self.labels, front, start, destination);
+        Ok(Answer::Found { tick, roads, taken })
     }
-    write_roads(net, cells, &mut list[..roads as usize], start, destination);
-    Ok(Answer::Found { tick, roads, taken })
+
+    // The answer to a question that is not refused before the search.
+    fn answer(&mut self, list: &mut [u32], question: Question) -> Result<Answer, Refusal>
+        requires start { IsPlace (N.Network.meaning self.old.net.now) question.start }
+        requires destination { IsPlace (N.Network.meaning self.old.net.now) question.destination }
+        requires tick { question.tick ≤ (N.Network.meaning self.old.net.now).last }
+        ensures stays { Stays self.old self.new }
+        ensures told { Fit (N.Network.meaning self.old.net.now) (E.Estimate.ahead self.old.estimate.now) question.destination → Searched (N.Network.meaning self.old.net.now) (E.Estimate.ahead self.old.estimate.now) question.start question.destination question.tick list.new result }
+        ensures within { filled result ≤ length list.old }
+        ensures list { drop (filled result) list.new ≡ drop (filled result) list.old }
+        ensures empty { Empty (Q.Queue.held self.new.queue.now) }
+    {
+        self.run(question.start, question.tick, Some(question.destination));
+        self.told(list, question)
+    }
 }
 
 // Asks over the network that is searched; the roads stand as they are found, from the destination back.
-fn ask<N: Network, E: Estimate, Q: Queue>(
-    net: &N,
-    estimate: &E,
-    queue: &mut Q,
-    table: &mut [u32],
+fn ask<'a, N: Network, E: Estimate, Q: Queue>(
+    net: &'a N,
+    estimate: &'a E,
+    queue: &'a mut Q,
+    table: &'a mut [u32],
     list: &mut [u32],
     question: Question,
 ) -> Result<Answer, Refusal>
@@ -97,7 +105,13 @@ fn ask<N: Network, E: Estimate, Q: Queue>(
     admit(net, queue, table.len(), question)?;
     let (cells, _) = table.split_at_mut(net.places() as usize);
     let work = Work { cells };
-    answer(net, estimate, queue, work.cells, list, question)
+    let mut search = Search {
+        net,
+        estimate,
+        queue,
+        labels: work.cells,
+    };
+    search.answer(list, question)
 }
 
 // Leaving the start at the tick, how soon is one at the destination, and by which roads.

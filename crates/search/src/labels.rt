@@ -28,7 +28,7 @@ pub(crate) fn lower(cells: &mut [u32], place: u32, tick: u32) -> bool
 }
 
 // Says whether a key is past the arrival at the goal, where a goal is given.
-pub(crate) fn past(cells: &[u32], goal: Option<u32>, key: u32) -> bool
+pub(crate) fn is_past(cells: &[u32], goal: Option<u32>, key: u32) -> bool
     ensures { Tells (Past (goal_arrival cells.now goal) key) result }
 {
     goal.and_then(|goal| arrival(cells, goal))

@@ -1,5 +1,9 @@
-// The working table of a search, lent for as long as it lasts.
+// What a search works on.
 ghost use Rattle.std.specs.Prelude.{◌≡◌, length, replicate};
+ghost use Rattle.search.specs.Labels.{Room};
+
+use network::Network;
+use queues::Queue;
 
 // A guard over the cells of a search: they are zero again when it ends.
 pub(crate) struct Work<'a> {
@@ -13,4 +17,14 @@ impl Drop for Work<'_> {
         let Work { cells } = self;
         cells.fill(0);
     }
+}
+
+// A search over a network, with a label for each place.
+#[derive(Drop)]
+pub(crate) struct Search<'a, N: Network, E, Q: Queue> {
+    pub(crate) net: &'a N,
+    pub(crate) estimate: &'a E,
+    pub(crate) queue: &'a mut Q,
+    pub(crate) labels: &'a mut [u32],
+    ghost room: { Room (N.Network.meaning net.now) labels.now (Q.Queue.capacity queue.now) },
 }

@@ -10,4 +10,9 @@ split_at_mut-cells-requires g c =
 pub answer-requires : goal.answer-requires
 answer-requires g c =
     let a = admitted _ _ _ _ _ _ c.in_ok-admit.ensures in
-    record { start = a.start; destination = a.destination; tick = a.tick; room = record { cells = c.split_at_mut-cells.ensures.front_len ∙ c.places.ensures; queue = a.wide } }
+    record { start = a.start; destination = a.destination; tick = a.tick }
+
+pub invariant_of-search : goal.invariant_of-search
+invariant_of-search g c =
+    let a = admitted _ _ _ _ _ _ c.in_ok-admit.ensures in
+    record { room = record { cells = c.split_at_mut-cells.ensures.front_len ∙ c.places.ensures; queue = a.wide } }

@@ -4,7 +4,7 @@ use Rattle.search.specs.declared.links.Side.TheVariants.{Out}
 use Rattle.search.proofs.Tables.{arrival_some, label_time}
 use Rattle.search.proofs.Walks.{comes}
 use Rattle.search.proofs.Relaxing.{walk_start, walk_more}
-use Rattle.search.proofs.relax.relax_out.Goals as goal
+use Rattle.search.proofs.work.Search.relax_out.Goals as goal
 
 pub loop-link-init : goal.loop-link-init
 loop-link-init g c =
@@ -13,7 +13,7 @@ loop-link-init g c =
     record {
       over = ap (λ l. g.N.Network.meaning l.net.now) same ∙ ap (λ r. g.N.Network.meaning r.now) links.network;
       out = ap (λ l. l.side) same ∙ links.side;
-      capacity = refl;
+      stays = (refl, refl, refl, refl, refl);
       walking = walk_start (ap (λ l. l.next) same ∙ links.first) c.requires.place (arrival_some _ _ (sym c.arrival.ensures ∙ c.in-Some.is)) c.requires.taken;
     }
 
@@ -21,22 +21,24 @@ pub relax-requires : goal.relax-requires
 relax-requires g c =
     let was = c.loop-link.invariant in
     let come = comes g.N.Network.meaning Out _ _ (Some c.in-Some-link.link) was.over was.out c.in-Some-link.ensures.steps in
+    let link = subst (IsLink (g.N.Network.meaning c.args.self.now.net.now)) (sym come.0) (was.walking.link (omega (arith, come.0, come.1))).0 in
+    let tick = label_time c.args.self.now.labels.now c.args.place (sym c.arrival.ensures ∙ c.in-Some.is) c.requires.early in
     record {
-      link = subst (IsLink (g.N.Network.meaning c.args.net.now)) (sym come.0) (was.walking.link (omega (arith, come.0, come.1))).0;
-      tick = label_time c.args.cells.now c.args.place (sym c.arrival.ensures ∙ c.in-Some.is) c.requires.early;
-      room = record { cells = omega (arith, c.requires.room.cells, c.loop-link.auto.cells); queue = omega (arith, c.requires.room.queue, was.capacity) };
+      link = rw was.stays.0 link;
+      tick = rw was.stays.0 tick;
     }
 
 pub loop-link-preserved : goal.loop-link-preserved
 loop-link-preserved g c =
-    let laws = g.met.N.Network.lawful c.args.net.now in
-    let in_time = label_time c.args.cells.now c.args.place (sym c.arrival.ensures ∙ c.in-Some.is) c.requires.early in
+    let laws = g.met.N.Network.lawful c.args.self.now.net.now in
+    let in_time = label_time c.args.self.now.labels.now c.args.place (sym c.arrival.ensures ∙ c.in-Some.is) c.requires.early in
     let was = c.loop-link.invariant in
     let step = c.in-Some-link.ensures.steps in
     let come = comes g.N.Network.meaning Out _ _ (Some c.in-Some-link.link) was.over was.out step in
+    let now = c.relax.ensures.stays in
     record {
       over = ap (λ r. g.N.Network.meaning r.now) step.0 ∙ was.over;
       out = step.1 ∙ was.out;
-      capacity = c.relax.ensures.capacity ∙ was.capacity;
-      walking = walk_more laws in_time was.walking come.0 come.1 c.relax.ensures.step come.2;
+      stays = (now.0 ∙ was.stays.0, now.1 ∙ was.stays.1, now.2 ∙ was.stays.2, now.3 ∙ was.stays.3, now.4 ∙ was.stays.4);
+      walking = walk_more laws in_time was.walking come.0 come.1 (rw (was.stays.0, was.stays.1) at c.relax.ensures.step) come.2;
     }

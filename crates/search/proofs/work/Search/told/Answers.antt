@@ -5,16 +5,16 @@ use Rattle.search.specs.Labels.{NearIn}
 use Rattle.search.proofs.Tables.{arrival_some}
 use Rattle.search.proofs.Goals.{early}
 use Rattle.search.proofs.Outcomes.{told_none, told_short, told_way}
-use Rattle.search.proofs.ask.answer.Goals as goal
+use Rattle.search.proofs.work.Search.told.Goals as goal
 
 -- the count of places taken, by the goal's arrival and the network's places
 by_goal : (h : ℕ → ℕ) (cells : List ℕ) {reached at : Option ℕ} {places n count : ℕ} → reached ≡ at → places ≡ n → Count (NearIn h reached cells) places count → Count (NearIn h at cells) n count
 by_goal h cells {reached} {at} {places} {n} {count} e p k = subst (λ l. Count (NearIn h l cells) n count) e (subst (λ m. Count (NearIn h reached cells) m count) p k)
 
 pub returns-in_default-clause-told : goal.returns-in_default-clause-told
-returns-in_default-clause-told g c = λ fit.
-    let law = g.met.N.Network.lawful c.args.net.now in
-    told_none _ law _ _ _ _ c.search.new.cells c.requires.start c.requires.destination c.requires.tick fit (c.search.ensures.found fit.consistent) _ (sym c.arrival-reached.ensures ∙ c.in_default.is)
+returns-in_default-clause-told g c = λ fit found.
+    let law = g.met.N.Network.lawful c.args.self.now.net.now in
+    told_none _ law _ _ _ _ c.args.self.now.labels.now c.requires.start c.requires.destination c.requires.tick fit found _ (sym c.arrival-reached.ensures ∙ c.in_default.is)
     (by_goal _ _ c.arrival-reached.ensures c.places.ensures c.taken-taken.ensures)
 
 pub count_roads-roads-requires : goal.count_roads-roads-requires
@@ -24,14 +24,14 @@ count_roads-roads-requires g c =
       labelled = record {
         place = c.requires.destination;
         there = omega (arith, label);
-        early = early (g.met.N.Network.lawful c.args.net.now) c.requires.tick c.search.new.cells c.search.ensures.sound _ (omega arith);
+        early = early (g.met.N.Network.lawful c.args.self.now.net.now) c.requires.tick c.args.self.now.labels.now c.requires.sound _ (omega arith);
       };
     }
 
 pub returns-then-roads-list-clause-told : goal.returns-then-roads-list-clause-told
-returns-then-roads-list-clause-told g c = λ fit.
-    let law = g.met.N.Network.lawful c.args.net.now in
-    told_short _ law _ _ _ _ c.search.new.cells c.requires.start c.requires.destination c.requires.tick fit (c.search.ensures.found fit.consistent) _ (sym c.arrival-reached.ensures ∙ c.in-Some.is)
+returns-then-roads-list-clause-told g c = λ fit found.
+    let law = g.met.N.Network.lawful c.args.self.now.net.now in
+    told_short _ law _ _ _ _ c.args.self.now.labels.now c.requires.start c.requires.destination c.requires.tick fit found _ (sym c.arrival-reached.ensures ∙ c.in-Some.is)
     _ c.count_roads-roads.ensures _ c.if-roads-list.true
 
 pub write_roads-requires : goal.write_roads-requires
@@ -41,17 +41,17 @@ write_roads-requires g c =
       labelled = record {
         place = c.requires.destination;
         there = omega (arith, label);
-        early = early (g.met.N.Network.lawful c.args.net.now) c.requires.tick c.search.new.cells c.search.ensures.sound _ (omega arith);
+        early = early (g.met.N.Network.lawful c.args.self.now.net.now) c.requires.tick c.args.self.now.labels.now c.requires.sound _ (omega arith);
       };
     }
 
 pub returns-clause-told : goal.returns-clause-told
-returns-clause-told g c = λ fit.
-    let law = g.met.N.Network.lawful c.args.net.now in
+returns-clause-told g c = λ fit found.
+    let law = g.met.N.Network.lawful c.args.self.now.net.now in
     let long = c.write_roads.auto.list in
     let written : length c.write_roads.new.list ≡ c.count_roads-roads.result = simp length-take at long ∙ omega arith in (
       omega (arith, written, length-append c.write_roads.new.list (drop c.count_roads-roads.result c.args.list.now)),
-      told_way _ law _ _ _ _ c.search.new.cells c.requires.start c.requires.destination c.requires.tick fit (c.search.ensures.found fit.consistent) _ (sym c.arrival-reached.ensures ∙ c.in-Some.is)
+      told_way _ law _ _ _ _ c.args.self.now.labels.now c.requires.start c.requires.destination c.requires.tick fit found _ (sym c.arrival-reached.ensures ∙ c.in-Some.is)
           _ c.count_roads-roads.ensures _ _ (by_goal _ _ c.arrival-reached.ensures c.places.ensures c.taken-taken.ensures)
           (λ back b n. take_at c.write_roads.new.list _ _ written ∙ c.write_roads.ensures back b (omega arith)),
     )
