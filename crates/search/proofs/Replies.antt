@@ -16,8 +16,8 @@ use Rattle.journeys.proofs.Starts.{start_exact, arrive_by}
 use Rattle.refusals.specs.declared.refusal.Refusal.TheVariants.{NoPlace, NoTick, ShortTable, ShortQueue, ShortList}
 use Rattle.search.specs.declared.question.Answer.TheVariants.{Found, NoWay as CutOff}
 use Rattle.search.specs.Counting.{Count, TakenPlace}
-use Rattle.search.specs.Estimate.{Fit}
-use Rattle.search.specs.Question.{Reply, Searched, Departs, Arrives, Latest, Asked, refusal_of, back_tick, counted_back, filled}
+use Rattle.search.specs.declared.question.Question.{Question}
+use Rattle.search.specs.Question.{Reply, Searched, Departs, Arrives, Latest, Lent, Asks, DepartsAt, ArrivesBy, back_tick, counted_back, filled}
 use Rattle.search.proofs.Refusing.{admitted, refusal_turned}
 
 module _ (net : Meaning) (law : Laws net) (h : ℕ → ℕ) (s d t : ℕ) (start : IsPlace net s) (tick : t ≤ net.last) (list : List ℕ) where
@@ -66,62 +66,59 @@ module _ (net : Meaning) (law : Laws net) (h : ℕ → ℕ) (s d y : ℕ) (start
   arrives (Err ShortQueue) w = w
 
 -- a depart-at question, by the list as its roads were found and as they are turned round
-module _ (net : Meaning) (law : Laws net) (h : ℕ → ℕ) (s d t table capacity : ℕ) (list found cells cells' : List ℕ) (held held' : ℕ → Option ℕ) (reply : Reply) where
-  abbrev Forward : Reply → Type 0
-  Forward told = Asked (refusal_of net table capacity s d t) net.places (Fit net h d) (Searched net h s d t found) list found cells cells' held held' told
-
-  abbrev Turned : List ℕ → Reply → Type 0
-  Turned list' told = Asked (refusal_of net table capacity s d t) net.places (Fit net h d) (Departs net h s d t list') list list' cells cells' held held' told
-
-  asked_turned : (list' : List ℕ) → length list' ≡ length found → take (filled reply) list' ≡ reverse (take (filled reply) found) → drop (filled reply) list' ≡ drop (filled reply) found → Forward reply → Turned list' reply
-  asked_turned list' long turned rest a =
+module _ (net : Meaning) (law : Laws net) (h : ℕ → ℕ) (q : Question) (before after : Lent) (reply : Reply) where
+  asked_turned : (list : List ℕ) → length list ≡ length after.list → take (filled reply) list ≡ reverse (take (filled reply) after.list) → drop (filled reply) list ≡ drop (filled reply) after.list → Asks net h q before after reply → DepartsAt net h q before (record after { list = list }) reply
+  asked_turned list long turned rest a =
       record {
         refusal = a.refusal;
         untouched = a.untouched;
-        told = λ n fit. let m = admitted net table capacity s d t n in departs net law h s d t m.start m.tick list' found long reply turned (a.told n fit);
+        told = λ n fit. let m = admitted _ _ _ _ _ _ n in departs net law h q.start q.destination q.tick m.start m.tick list after.list long reply turned (a.told n fit);
         wiped = a.wiped;
         empty = a.empty;
         rest = rest ∙ a.rest;
+        capacity = a.capacity;
       }
 
-  pub asked_found : (front : List ℕ) (n : ℕ) → n ≡ filled reply → n ≤ length found → front ≡ reverse (take n found) → (told : Reply) → told ≡ reply → Forward told → Turned (front ++ drop n found) reply
+  pub asked_found : (front : List ℕ) (n : ℕ) → n ≡ filled reply → n ≤ length after.list → front ≡ reverse (take n after.list) → (told : Reply) → told ≡ reply → Asks net h q before after told → DepartsAt net h q before (record after { list = front ++ drop n after.list }) reply
   asked_found front n e l turned told et a =
+      let found = after.list in
       let long : length front ≡ n = simp (length-reverse, length-take) at (ap length turned) ∙ omega arith in
       asked_turned (front ++ drop n found)
       (simp (length-append, length-drop) (omega (arith, long)))
       (subst (λ m. take m (front ++ drop n found) ≡ reverse (take m found)) e (take_at front (drop n found) n long ∙ turned))
       (subst (λ m. drop m (front ++ drop n found) ≡ drop m found) e (drop_at front (drop n found) n long))
-      (subst Forward et a)
+      (subst (Asks net h q before after) et a)
 
-  pub asked_none : filled reply ≡ 0 → (told : Reply) → told ≡ reply → Forward told → Turned found reply
-  asked_none e told et a = asked_turned found refl (subst (λ m. take m found ≡ reverse (take m found)) (sym e) refl) refl (subst Forward et a)
+  pub asked_none : filled reply ≡ 0 → (told : Reply) → told ≡ reply → Asks net h q before after told → DepartsAt net h q before after reply
+  asked_none e told et a = asked_turned after.list refl (subst (λ m. take m after.list ≡ reverse (take m after.list)) (sym e) refl) refl (subst (Asks net h q before after) et a)
 
 pub filled_back : (last : ℕ) (reply : Reply) → filled (counted_back last reply) ≡ filled reply
 filled_back last (Ok (Found a roads n)) = refl
 filled_back last (Ok (CutOff n)) = refl
 filled_back last (Err r) = refl
 
--- the question as it was asked, by the question on the turned network
-module _ (net : Meaning) (law : Laws net) (h : ℕ → ℕ) (s d y table capacity : ℕ) (list list' cells cells' : List ℕ) (held held' : ℕ → Option ℕ) where
+-- an arrive-by question, by the question on the turned network
+module _ (net : Meaning) (law : Laws net) (h : ℕ → ℕ) (q : Question) (before after : Lent) where
   abbrev Backward : Meaning → ℕ → Reply → Type 0
-  Backward back tick reply = Asked (refusal_of back table capacity d s tick) back.places (Fit back h s) (Searched back h d s tick list') list list' cells cells' held held' reply
+  Backward back tick = Asks back h (record { start = q.destination; destination = q.start; tick = tick }) before after
 
-  asked_back : (reply : Reply) → Backward (turned net) (back_tick net.last y) reply → Asked (refusal_of net table capacity s d y) net.places (Fit (turned net) h s) (Arrives net h s d y list') list list' cells cells' held held' (counted_back net.last reply)
+  asked_back : (reply : Reply) → Backward (turned net) (back_tick net.last q.tick) reply → ArrivesBy net h q before after (counted_back net.last reply)
   asked_back reply a =
-      let same = refusal_turned net table capacity s d y in
+      let same = refusal_turned net (length before.table) before.capacity q.start q.destination q.tick in
       record {
         refusal = λ r e. ap (counted_back net.last) (a.refusal r (same ∙ e));
         untouched = λ r e. a.untouched r (same ∙ e);
         told = λ n fit.
-            let m = admitted net table capacity s d y n in
-            let tick : back_tick net.last y ≡ net.last - y = cond-true _ _ _ (le-leb y net.last m.tick) in
-            arrives net law h s d y m.start m.destination m.tick list' reply (subst (λ t. Searched (turned net) h d s t list' reply) tick (a.told (same ∙ n) fit));
+            let m = admitted _ _ _ _ _ _ n in
+            let tick : back_tick net.last q.tick ≡ net.last - q.tick = cond-true _ _ _ (le-leb q.tick net.last m.tick) in
+            arrives net law h q.start q.destination q.tick m.start m.destination m.tick after.list reply (subst (λ t. Searched (turned net) h q.destination q.start t after.list reply) tick (a.told (same ∙ n) fit));
         wiped = λ n. a.wiped (same ∙ n);
         empty = λ n. a.empty (same ∙ n);
-        rest = subst (λ k. drop k list' ≡ drop k list) (sym (filled_back net.last reply)) a.rest;
+        rest = subst (λ k. drop k after.list ≡ drop k before.list) (sym (filled_back net.last reply)) a.rest;
+        capacity = a.capacity;
       }
 
-  pub asked_by : (back : Meaning) (last tick : ℕ) (reply told : Reply) → back ≡ turned net → last ≡ net.last → tick ≡ back_tick last y → told ≡ counted_back last reply → Backward back tick reply → Asked (refusal_of net table capacity s d y) net.places (Fit (turned net) h s) (Arrives net h s d y list') list list' cells cells' held held' told
+  pub asked_by : (back : Meaning) (last tick : ℕ) (reply told : Reply) → back ≡ turned net → last ≡ net.last → tick ≡ back_tick last q.tick → told ≡ counted_back last reply → Backward back tick reply → ArrivesBy net h q before after told
   asked_by back last tick reply told eb el et er a =
-      subst (Asked (refusal_of net table capacity s d y) net.places (Fit (turned net) h s) (Arrives net h s d y list') list list' cells cells' held held') (sym (er ∙ ap (λ l. counted_back l reply) el))
-      (asked_back reply (subst (λ t. Backward (turned net) t reply) (et ∙ ap (λ l. back_tick l y) el) (subst (λ m. Backward m tick reply) eb a)))
+      subst (ArrivesBy net h q before after) (sym (er ∙ ap (λ l. counted_back l reply) el))
+      (asked_back reply (subst (λ t. Backward (turned net) t reply) (et ∙ ap (λ l. back_tick l q.tick) el) (subst (λ m. Backward m tick reply) eb a)))

@@ -9,6 +9,8 @@ use Rattle.journeys.specs.Turned.{turned}
 use Rattle.queues.specs.Queue.{Empty}
 use Rattle.refusals.specs.declared.refusal.Refusal.{Refusal}
 use Rattle.refusals.specs.declared.refusal.Refusal.TheVariants.{NoPlace, NoTick, ShortTable, ShortQueue, ShortList}
+use Rattle.std.specs.Borrow.{MutBor}
+use Rattle.search.specs.declared.memory.Memory.{Memory}
 use Rattle.search.specs.declared.question.Question.{Question}
 use Rattle.search.specs.declared.question.Answer.{Answer}
 use Rattle.search.specs.declared.question.Answer.TheVariants.{Found, NoWay as CutOff}
@@ -128,32 +130,45 @@ Arrives net h s d y list (Err NoTick) = ⊥
 Arrives net h s d y list (Err ShortTable) = ⊥
 Arrives net h s d y list (Err ShortQueue) = ⊥
 
--- What a question does to what was lent, and when `Told` holds of the reply.
-pub record Asked (refused : Option Refusal) (places : ℕ) (fit : Type 0) (Told : Reply → Type 0) (list list' table table' : List ℕ) (held held' : ℕ → Option ℕ) (reply : Reply) : Type 0 where
+-- what counts of the memory that a question is lent
+pub record Lent : Type 0 where
+  pub table : List ℕ
+  pub list : List ℕ
+  pub held : ℕ → Option ℕ
+  pub capacity : ℕ
+
+-- the memory as it is lent, and as it is left
+abbrev pub lent : {Q : Type 0} → (Q → ℕ → Option ℕ) → (Q → ℕ) → Memory Q → Lent
+lent held capacity m = record { table = m.table.now; list = m.list.now; held = held m.queue.now; capacity = capacity m.queue.now }
+
+abbrev pub left : {Q : Type 0} → (Q → ℕ → Option ℕ) → (Q → ℕ) → MutBor Q × (MutBor (List ℕ) × (MutBor (List ℕ) × Unit {0})) → Lent
+left held capacity m = record { table = m.1.0.now; list = m.1.1.0.now; held = held m.0.now; capacity = capacity m.0.now }
+
+-- What a question does to what it is lent, and when `Told` holds of the reply.
+pub record Asked (refused : Option Refusal) (places : ℕ) (fit : Type 0) (Told : Reply → Type 0) (before after : Lent) (reply : Reply) : Type 0 where
   -- refused before the search: that refusal, and nothing changes
   pub refusal : (r : Refusal) → refused ≡ Some r → reply ≡ Err r
-  pub untouched : (r : Refusal) → refused ≡ Some r → (table' ≡ table) × ((v : ℕ) → held' v ≡ held v)
+  pub untouched : (r : Refusal) → refused ≡ Some r → (after.table ≡ before.table) × ((v : ℕ) → after.held v ≡ before.held v)
   -- else the reply, which a fit estimate makes right
   pub told : refused ≡ None → fit → Told reply
   -- the first cells of the working table, one for each place, are zero and its others stay; the queue is empty
-  pub wiped : refused ≡ None → Wiped places table table'
-  pub empty : refused ≡ None → Empty held'
-  -- the cells after the roads stay
-  pub rest : drop (filled reply) list' ≡ drop (filled reply) list
+  pub wiped : refused ≡ None → Wiped places before.table after.table
+  pub empty : refused ≡ None → Empty after.held
+  -- the cells after the roads stay, and so does the queue's capacity
+  pub rest : drop (filled reply) after.list ≡ drop (filled reply) before.list
+  pub capacity : after.capacity ≡ before.capacity
 
--- A question over the network that is searched, a depart-at question and an arrive_by question, with what was lent before and after.
-abbrev pub Asks : Meaning → (ℕ → ℕ) → ℕ → Question → List ℕ → List ℕ → List ℕ → List ℕ → (ℕ → Option ℕ) → (ℕ → Option ℕ) → Reply → Type 0
-Asks net h capacity q list list' table table' held held' =
-    Asked (refusal_of net (length table) capacity q.start q.destination q.tick) net.places (Fit net h q.destination)
-    (Searched net h q.start q.destination q.tick list') list list' table table' held held'
+-- what refuses a question before the search, by the memory that it is lent
+abbrev pub refused : Meaning → Question → Lent → Option Refusal
+refused net q before = refusal_of net (length before.table) before.capacity q.start q.destination q.tick
 
-abbrev pub DepartsAt : Meaning → (ℕ → ℕ) → ℕ → Question → List ℕ → List ℕ → List ℕ → List ℕ → (ℕ → Option ℕ) → (ℕ → Option ℕ) → Reply → Type 0
-DepartsAt net h capacity q list list' table table' held held' =
-    Asked (refusal_of net (length table) capacity q.start q.destination q.tick) net.places (Fit net h q.destination)
-    (Departs net h q.start q.destination q.tick list') list list' table table' held held'
+-- A question over the network that is searched, a depart-at question and an arrive_by question, by the memory before and after.
+abbrev pub Asks : Meaning → (ℕ → ℕ) → Question → Lent → Lent → Reply → Type 0
+Asks net h q before after = Asked (refused net q before) net.places (Fit net h q.destination) (Searched net h q.start q.destination q.tick after.list) before after
+
+abbrev pub DepartsAt : Meaning → (ℕ → ℕ) → Question → Lent → Lent → Reply → Type 0
+DepartsAt net h q before after = Asked (refused net q before) net.places (Fit net h q.destination) (Departs net h q.start q.destination q.tick after.list) before after
 
 -- (its estimate is one for the search back to the start)
-abbrev pub ArrivesBy : Meaning → (ℕ → ℕ) → ℕ → Question → List ℕ → List ℕ → List ℕ → List ℕ → (ℕ → Option ℕ) → (ℕ → Option ℕ) → Reply → Type 0
-ArrivesBy net h capacity q list list' table table' held held' =
-    Asked (refusal_of net (length table) capacity q.start q.destination q.tick) net.places (Fit (turned net) h q.start)
-    (Arrives net h q.start q.destination q.tick list') list list' table table' held held'
+abbrev pub ArrivesBy : Meaning → (ℕ → ℕ) → Question → Lent → Lent → Reply → Type 0
+ArrivesBy net h q before after = Asked (refused net q before) net.places (Fit (turned net) h q.start) (Arrives net h q.start q.destination q.tick after.list) before after

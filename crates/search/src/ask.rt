@@ -5,10 +5,11 @@ ghost use Rattle.queues.specs.Queue.{Empty};
 ghost use Rattle.search.specs.Labels.{Found, Sound};
 ghost use Rattle.search.specs.Lent.{Stays};
 ghost use Rattle.search.specs.Estimate.{Fit};
-ghost use Rattle.search.specs.Question.{ArrivesBy, Asks, DepartsAt, Searched, back_tick, counted_back, filled, refusal_of};
+ghost use Rattle.search.specs.Question.{ArrivesBy, Asks, DepartsAt, Searched, back_tick, counted_back, filled, left, lent, refusal_of};
 
 use crate::estimate::Estimate;
 use crate::labels::{arrival, taken};
+use crate::memory::Memory;
 use crate::question::{Answer, Question};
 use crate::roads::{count_roads, write_roads};
 use crate::work::{Search, Work};
@@ -98,9 +99,8 @@ fn ask<'a, N: Network, E: Estimate, Q: Queue>(
     list: &mut [u32],
     question: Question,
 ) -> Result<Answer, Refusal>
-    ensures asked { Asks (N.Network.meaning net.now) (E.Estimate.ahead estimate.now) (Q.Queue.capacity queue.old) question list.old list.new table.old table.new (Q.Queue.held queue.old) (Q.Queue.held queue.new) result }
+    ensures asked { Asks (N.Network.meaning net.now) (E.Estimate.ahead estimate.now) question (record { table = table.old; list = list.old; held = Q.Queue.held queue.old; capacity = Q.Queue.capacity queue.old }) (record { table = table.new; list = list.new; held = Q.Queue.held queue.new; capacity = Q.Queue.capacity queue.new }) result }
     ensures within { filled result ≤ length list.old }
-    ensures capacity { Q.Queue.capacity queue.new ≡ Q.Queue.capacity queue.old }
 {
     admit(net, queue, table.len(), question)?;
     let (cells, _) = table.split_at_mut(net.places() as usize);
@@ -118,14 +118,12 @@ fn ask<'a, N: Network, E: Estimate, Q: Queue>(
 pub fn depart_at<N: Network, E: Estimate, Q: Queue>(
     net: &N,
     estimate: &E,
-    queue: &mut Q,
-    table: &mut [u32],
-    list: &mut [u32],
+    memory: Memory<'_, Q>,
     question: Question,
 ) -> Result<Answer, Refusal>
-    ensures asked { DepartsAt (N.Network.meaning net.now) (E.Estimate.ahead estimate.now) (Q.Queue.capacity queue.old) question list.old list.new table.old table.new (Q.Queue.held queue.old) (Q.Queue.held queue.new) result }
-    ensures capacity { Q.Queue.capacity queue.new ≡ Q.Queue.capacity queue.old }
+    ensures { DepartsAt (N.Network.meaning net.now) (E.Estimate.ahead estimate.now) question (lent Q.Queue.held Q.Queue.capacity memory.entry) (left Q.Queue.held Q.Queue.capacity memory.exit) result }
 {
+    let Memory { queue, table, list } = memory;
     let answer = ask(net, estimate, queue, table, list, question)?;
     list[..answer.roads() as usize].reverse();
     Ok(answer)
@@ -157,14 +155,12 @@ fn counted_back(last: u32, reply: Result<Answer, Refusal>) -> Result<Answer, Ref
 pub fn arrive_by<N: Network, E: Estimate, Q: Queue>(
     net: &N,
     estimate: &E,
-    queue: &mut Q,
-    table: &mut [u32],
-    list: &mut [u32],
+    memory: Memory<'_, Q>,
     question: Question,
 ) -> Result<Answer, Refusal>
-    ensures asked { ArrivesBy (N.Network.meaning net.now) (E.Estimate.ahead estimate.now) (Q.Queue.capacity queue.old) question list.old list.new table.old table.new (Q.Queue.held queue.old) (Q.Queue.held queue.new) result }
-    ensures capacity { Q.Queue.capacity queue.new ≡ Q.Queue.capacity queue.old }
+    ensures { ArrivesBy (N.Network.meaning net.now) (E.Estimate.ahead estimate.now) question (lent Q.Queue.held Q.Queue.capacity memory.entry) (left Q.Queue.held Q.Queue.capacity memory.exit) result }
 {
+    let Memory { queue, table, list } = memory;
     let last = net.last_tick();
     let backward = Question {
         start: question.destination,

@@ -5,6 +5,7 @@ mod ask;
 pub mod estimate;
 mod labels;
 mod links;
+pub mod memory;
 pub mod question;
 mod relax;
 mod roads;
