@@ -10,6 +10,7 @@ use refusals::refusal::Refusal;
 use requests::question::{Kind, Request};
 use requests::{book_size, request};
 use search::estimate::NoEstimate;
+use search::memory::Memory as LentMemory;
 use search::question::{Answer, Question};
 use search::{arrive_by, depart_at};
 use std::alloc::{AllocError, Global};
@@ -38,23 +39,14 @@ impl Memory {
             destination: request.destination,
             tick: request.tick,
         };
+        let lent = LentMemory {
+            queue: &mut self.queue,
+            table: &mut self.table,
+            list: &mut self.list,
+        };
         match request.kind {
-            Kind::DepartAt => depart_at(
-                book,
-                &NoEstimate,
-                &mut self.queue,
-                &mut self.table,
-                &mut self.list,
-                question,
-            ),
-            Kind::ArriveBy => arrive_by(
-                book,
-                &NoEstimate,
-                &mut self.queue,
-                &mut self.table,
-                &mut self.list,
-                question,
-            ),
+            Kind::DepartAt => depart_at(book, &NoEstimate, lent, question),
+            Kind::ArriveBy => arrive_by(book, &NoEstimate, lent, question),
         }
     }
 }

@@ -6,6 +6,7 @@ use quay::words;
 use queues::Queue;
 use queues::scan::ScanQueue;
 use refusals::column::ColumnRefusal;
+use search::memory::Memory;
 use search::question::{Answer, Question};
 use search::{arrive_by, depart_at};
 use std::test::Fail;
@@ -22,14 +23,12 @@ fn with_a_mark_fewer_places_are_taken(rt: HostRuntime) -> Result<(), Fail> {
         tick: 20,
     };
     let estimate = Forward::new(&marks, 3);
-    let reply = depart_at(
-        &book,
-        &estimate,
-        &mut queue,
-        &mut [0; 3],
-        &mut [0; 3],
-        question,
-    );
+    let memory = Memory {
+        queue: &mut queue,
+        table: &mut [0; 3],
+        list: &mut [0; 3],
+    };
+    let reply = depart_at(&book, &estimate, memory, question);
     let found = Answer::Found {
         tick: 43,
         roads: 1,
@@ -51,14 +50,12 @@ fn backward_in_time_a_mark_estimates_the_way_to_the_start(rt: HostRuntime) -> Re
         tick: 45,
     };
     let estimate = Backward::new(&marks, 1);
-    let reply = arrive_by(
-        &book,
-        &estimate,
-        &mut queue,
-        &mut [0; 3],
-        &mut [0; 3],
-        question,
-    );
+    let memory = Memory {
+        queue: &mut queue,
+        table: &mut [0; 3],
+        list: &mut [0; 3],
+    };
+    let reply = arrive_by(&book, &estimate, memory, question);
     let found = Answer::Found {
         tick: 23,
         roads: 1,

@@ -4,6 +4,7 @@ use quay::words;
 use queues::scan::ScanQueue;
 use refusals::refusal::Refusal;
 use search::estimate::NoEstimate;
+use search::memory::Memory;
 use search::question::{Answer, Question};
 use search::{arrive_by, depart_at};
 use std::alloc::{AllocError, Global};
@@ -25,14 +26,12 @@ fn depart(
         destination: 3,
         tick,
     };
-    let reply = depart_at(
-        book,
-        &NoEstimate,
-        &mut queue,
-        &mut table,
-        &mut list,
-        question,
-    );
+    let memory = Memory {
+        queue: &mut queue,
+        table: &mut table,
+        list: &mut list,
+    };
+    let reply = depart_at(book, &NoEstimate, memory, question);
     Ok((reply, list))
 }
 
@@ -92,14 +91,12 @@ fn the_latest_departure_to_be_there_by_45(rt: HostRuntime) -> Result<(), Fail> {
         destination: 3,
         tick: 45,
     };
-    let reply = arrive_by(
-        &book,
-        &NoEstimate,
-        &mut queue,
-        &mut table,
-        &mut list,
-        question,
-    );
+    let memory = Memory {
+        queue: &mut queue,
+        table: &mut table,
+        list: &mut list,
+    };
+    let reply = arrive_by(&book, &NoEstimate, memory, question);
     assert_eq!(rt;
         reply,
         Ok(Answer::Found {
