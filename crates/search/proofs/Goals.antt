@@ -3,10 +3,11 @@ use Rattle.std.proofs.Common.{◌≡◌, ℕ, zero, suc, ◌+◌, ◌≤◌, Boo
 use Rattle.std.specs.List.{filter, range_with_len}
 use Rattle.std.proofs.lemmas.List.Elements.{filter-append}
 use Rattle.std.proofs.lemmas.Bool.{cases_lt, false≢true, leb-true, le-leb}
-use Rattle.network.specs.Meaning.{Meaning}
+use Rattle.network.specs.Meaning.{Meaning, IsPlace}
 use Rattle.network.specs.Laws.{Laws}
 use Rattle.journeys.specs.Journey.{FirstArrival, NoWay}
 use Rattle.search.specs.Labels.{Within, Early, Sound, Found, Near, NearIn, label, arrival_of, arrivals_in, is_within, is_near}
+use Rattle.search.specs.RoadLists.{Labelled}
 use Rattle.search.specs.Counting.{Count, TakenPlace}
 use Rattle.search.specs.Counting.Count.{nothing, counts, passes}
 use Rattle.search.proofs.Tables.{label_cases, within_less, arrival_some, none_label}
@@ -15,6 +16,14 @@ use Rattle.search.proofs.Turns.{sound_early}
 -- labels that say arrivals of journeys are early enough to be counted
 pub early : {net : Meaning} {s t : ℕ} → Laws net → t ≤ net.last → (cells : List ℕ) → Sound net s t cells → (n : ℕ) → n ≤ net.places → Early n cells
 early laws in_time cells sound n few v l = omega (arith, sound_early laws cells in_time sound v (omega arith), laws.last.high)
+
+-- a place that a search has reached has a label, in a table whose labels are early
+pub reached : {net : Meaning} {s t v a : ℕ} → Laws net → t ≤ net.last → IsPlace net v → (cells : List ℕ) → Sound net s t cells → arrivals_in cells v ≡ Some a → Labelled net cells v
+reached {v = v} laws in_time place cells sound e = record {
+  place = place;
+  there = omega (arith, arrival_some (label cells v) _ e);
+  early = early laws in_time cells sound _ (omega arith);
+}
 
 -- one number more at the end
 range_more : (a n : ℕ) → range_with_len a (suc n) ≡ range_with_len a n ++ (a + n) ∷ []

@@ -13,10 +13,6 @@ use Rattle.search.specs.Steps.{Before, Relaxed, State, Step, Kept, Better, Walki
 use Rattle.search.proofs.Tables.{some_none}
 use Rattle.search.proofs.Walks.{first_lowest, next_lowest, lowest_link, lowest_none}
 
--- an arrival is at most the greatest tick
-pub arrives_soon : {net : Meaning} → Laws net → (k t a : ℕ) → IsLink net k → t ≤ net.last → Some a ≡ net.arrival k t → a ≤ 604800
-arrives_soon {net} laws k t a link in_time e = omega (arith, (within net laws k t a link in_time (sym e)).1, laws.last.high)
-
 -- a label that is lowered stays relaxed
 relaxed_less : (l l' : ℕ) (o : Option ℕ) → (1 ≤ l → (1 ≤ l') × (l' ≤ l)) → Relaxed l o → Relaxed l' o
 relaxed_less l l' None less r = tt

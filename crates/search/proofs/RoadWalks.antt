@@ -11,7 +11,7 @@ use Rattle.network.specs.Laws.{Laws}
 use Rattle.journeys.specs.Earliest.{after}
 use Rattle.journeys.specs.Roads.{InTime, Lowest, Back}
 use Rattle.journeys.specs.Roads.Back.{home, over}
-use Rattle.journeys.proofs.Rides.{within, after_some}
+use Rattle.journeys.proofs.Rides.{after_some}
 use Rattle.search.specs.declared.roads.RoadsBack.{RoadsBack}
 use Rattle.search.specs.Labels.{label, arrival_of, arrivals_in, Fits, Sought}
 use Rattle.search.specs.RoadLists.{GoesBack, back_steps}
@@ -47,14 +47,6 @@ module _ (net : Meaning) (law : Laws net) (cells : List ℕ) where
       go (suc a) e n =
           let (x, lx, arr) = after_some net k a (arrivals_in cells (net.tail k)) (f.timely ∙ ap arrival_of e) in
           record { link = f.link; into = f.into; from = x; to = a; from_label = arrival_some _ x lx; to_label = e; carries = arr }
-
-  -- the label of the tail of a link that fits is less
-  pub fits_less : {v k : ℕ} → Fits net cells v k → label cells (net.tail k) < label cells v
-  fits_less {v} {k} f =
-      ⊎_elim
-      (λ l. absurd (let n = law.no_tick k f.from l in let c = f.carries in let z : ◌≡◌ {A = ℕ} 0 1 = cc in omega arith))
-      (λ l. let w = within net law k f.from f.to f.link l f.carries in let p = law.floor k f.link in omega (arith, w.0, p.low, f.from_label, f.to_label))
-      (cases_lt net.last f.from)
 
   -- the link that is sought is the first road of the list
   sought_road : {v k : ℕ} → 1 ≤ label cells v → Sought net cells v (Some k) → (j : ℕ) → Lowest net (arrivals_in cells) v j → k ≡ j

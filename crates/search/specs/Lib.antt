@@ -5,4 +5,4 @@ pub mod Steps
 pub mod Counting
 pub mod RoadLists
 pub mod Question
-pub mod Lent
+pub mod Searching

@@ -3,7 +3,7 @@ ghost use Rattle.std.specs.Prelude.{◌≡◌, ◌≤◌, length, drop, Some, No
 ghost use Rattle.network.specs.Meaning.{IsPlace};
 ghost use Rattle.queues.specs.Queue.{Empty};
 ghost use Rattle.search.specs.Labels.{Found, Sound};
-ghost use Rattle.search.specs.Lent.{Stays};
+ghost use Rattle.search.specs.Searching.{Stays};
 ghost use Rattle.search.specs.Estimate.{Fit};
 ghost use Rattle.search.specs.Question.{ArrivesBy, Asks, DepartsAt, Searched, back_tick, counted_back, filled, left, lent, refusal_of};
 
@@ -90,7 +90,8 @@ impl<'a, N: Network, E: Estimate, Q: Queue> Search<'a, N, E, Q> {
     }
 }
 
-// Asks over the network that is searched; the roads stand as they are found, from the destination back.
+// Asks over the network that is searched; the roads stand as they are found, from the destination back. (It takes the memory in parts:
+// moved on whole, beside a network that stands for less long, the check gives it a new value, and the proof doesn't close.)
 fn ask<'a, N: Network, E: Estimate, Q: Queue>(
     net: &'a N,
     estimate: &'a E,

@@ -42,6 +42,7 @@ fn is_near<E: Estimate>(estimate: &E, cells: &[u32], place: u32, limit: Option<u
     let Some(tick) = arrival(cells, place) else {
         return false;
     };
+    // in 64 bits, where no sum wraps
     let near = u64::from(tick) + u64::from(estimate.ahead(place));
     limit.is_none_or(|limit| near <= u64::from(limit))
 }

@@ -4,7 +4,7 @@ ghost use Rattle.network.specs.Meaning.{IsLink, IsPlace};
 ghost use Rattle.queues.specs.Queue.{Empty};
 ghost use Rattle.search.specs.Estimate.{Consistent};
 ghost use Rattle.search.specs.Labels.{Found, Past, Sound, Tells, arrivals_in, goal_arrival, label};
-ghost use Rattle.search.specs.Lent.{Stays};
+ghost use Rattle.search.specs.Searching.{Stays};
 ghost use Rattle.search.specs.Steps.{State, Step, Walk};
 
 use crate::estimate::Estimate;
@@ -15,7 +15,8 @@ use network::Network;
 use queues::Queue;
 
 impl<'a, N: Network, E: Estimate, Q: Queue> Search<'a, N, E, Q> {
-    // The arrival that a place's label says, or none.
+    // The arrival that a place's label says, or none. (A method, as the next: `&*self.labels` out of a `&mut self` is given a new value
+    // by the check, and the proof doesn't close.)
     fn arrival(&self, place: u32) -> Option<u32>
         ensures { result ≡ arrivals_in self.now.labels.now place }
     {

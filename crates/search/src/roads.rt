@@ -66,6 +66,7 @@ pub(crate) fn write_roads<N: Network>(
     requires labelled { Labelled (N.Network.meaning net.now) cells.now place }
     ensures { (back : List ℕ) → Back (N.Network.meaning net.now) (arrivals_in cells.now) start place back → length list.old ≡ length back → list.new ≡ back }
 {
+    // Not by `zip`: over an adapter of `iter_mut` an invariant has no name for the list, so the proof doesn't close.
     let mut roads = RoadsBack::new(net, cells, start, place);
     for cell in list.iter_mut() {
         let Some(road) = roads.next() else {

@@ -1,6 +1,6 @@
 use Rattle.std.proofs.Common.{◌≡◌}
 use Rattle.search.specs.declared.links.Side.TheVariants.{Out}
-use Rattle.search.specs.Lent.{Stays}
+use Rattle.search.specs.Searching.{Stays}
 use Rattle.search.specs.Steps.{Walking}
 use Rattle.search.proofs.work.Search.relax_out.Given as goal
 

@@ -1,4 +1,4 @@
-use Rattle.search.specs.Lent.{Stays}
+use Rattle.search.specs.Searching.{Stays}
 use Rattle.search.specs.Steps.{State, total, rank}
 use Rattle.search.proofs.work.Search.run.Given as goal
 

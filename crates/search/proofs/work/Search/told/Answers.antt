@@ -2,8 +2,7 @@ use Rattle.std.proofs.Common.{◌≡◌, ℕ, List, length, drop, Option, sym, �
 use Rattle.std.proofs.lemmas.List.{take_at, length-take}
 use Rattle.search.specs.Counting.{Count}
 use Rattle.search.specs.Labels.{NearIn}
-use Rattle.search.proofs.Tables.{arrival_some}
-use Rattle.search.proofs.Goals.{early}
+use Rattle.search.proofs.Goals.{reached}
 use Rattle.search.proofs.Outcomes.{told_none, told_short, told_way}
 use Rattle.search.proofs.work.Search.told.Goals as goal
 
@@ -19,14 +18,7 @@ returns-in_default-clause-told g c = λ fit found.
 
 pub count_roads-roads-requires : goal.count_roads-roads-requires
 count_roads-roads-requires g c =
-    let label = arrival_some _ _ (sym c.arrival-reached.ensures ∙ c.in-Some.is) in
-    record {
-      labelled = record {
-        place = c.requires.destination;
-        there = omega (arith, label);
-        early = early (g.met.N.Network.lawful c.args.self.now.net.now) c.requires.tick c.args.self.now.labels.now c.requires.sound _ (omega arith);
-      };
-    }
+    record { labelled = reached (g.met.N.Network.lawful c.args.self.now.net.now) c.requires.tick c.requires.destination c.args.self.now.labels.now c.requires.sound (sym c.arrival-reached.ensures ∙ c.in-Some.is) }
 
 pub returns-then-roads-list-clause-told : goal.returns-then-roads-list-clause-told
 returns-then-roads-list-clause-told g c = λ fit found.
@@ -36,14 +28,7 @@ returns-then-roads-list-clause-told g c = λ fit found.
 
 pub write_roads-requires : goal.write_roads-requires
 write_roads-requires g c =
-    let label = arrival_some _ _ (sym c.arrival-reached.ensures ∙ c.in-Some.is) in
-    record {
-      labelled = record {
-        place = c.requires.destination;
-        there = omega (arith, label);
-        early = early (g.met.N.Network.lawful c.args.self.now.net.now) c.requires.tick c.args.self.now.labels.now c.requires.sound _ (omega arith);
-      };
-    }
+    record { labelled = reached (g.met.N.Network.lawful c.args.self.now.net.now) c.requires.tick c.requires.destination c.args.self.now.labels.now c.requires.sound (sym c.arrival-reached.ensures ∙ c.in-Some.is) }
 
 pub returns-clause-told : goal.returns-clause-told
 returns-clause-told g c = λ fit found.
