@@ -1,7 +1,7 @@
 // Two networks as one.
 #![tactic(auto)]
 
-ghost use Rattle.std.specs.Prelude.{◌≡◌, ◌≤◌, Some, None, MatchResult};
+ghost use Rattle.std.specs.Prelude.{◌≡◌, ◌≤◌};
 ghost use Rattle.joined.specs.Joined.{misfit, joined, second_link, numbered_on};
 ghost use Rattle.joined.specs.Joins.{joined_laws};
 
@@ -24,9 +24,12 @@ pub struct Unjoined<A, B> {
 }
 
 impl<A: Network, B: Network> Joined<A, B> {
+    ghost use Rattle.joined.specs.Answered.{misfit_in, halves_in};
+
     // The two as one, if they fit.
     pub fn join(first: A, second: B) -> Result<Joined<A, B>, Unjoined<A, B>>
-        ensures { MatchResult result (λ j. (misfit (A.Network.meaning first) (B.Network.meaning second) ≡ None) × (j.first ≡ first) × (j.second ≡ second)) (λ u. (misfit (A.Network.meaning first) (B.Network.meaning second) ≡ Some u.misfit) × (u.first ≡ first) × (u.second ≡ second)) }
+        ensures reply { misfit_in result ≡ misfit (A.Network.meaning first) (B.Network.meaning second) }
+        ensures halves { halves_in result ≡ (first, second) }
     {
         let two = Joined { first, second };
         match two.misfit() {

@@ -1,6 +1,6 @@
 -- The lowest link with a given end.
-use Rattle.std.proofs.Common.{◌≡◌, ℕ, zero, suc, ◌+◌, ◌-◌, ◌<◌, ◌≤◌, cond, eqb, sym, ap, ◌∙◌, subst, ⊎_elim, arith}
-use Rattle.std.proofs.lemmas.Bool.{cases_eq, cases_lt, eq-eqb, ne_eqb, eqb-true, eqb-false, cond_both, cond-true, cond-false}
+use Rattle.std.proofs.Common.{◌≡◌, ℕ, zero, suc, ◌+◌, ◌-◌, ◌<◌, ◌≤◌, eqb, sym, ap, ◌∙◌, subst, ⊎_elim, arith}
+use Rattle.std.proofs.lemmas.Bool.{cases_eq, cases_lt, eqb-true, eqb-false, cond_both, cond-true, cond-false}
 use Rattle.network.specs.Meaning.{Meaning, IsPlace, IsLink}
 use Rattle.network.specs.Links.{lowest, first, next, IsLowest}
 use Rattle.network.proofs.Ranges.{true_among, false_among, cases_among}
@@ -28,23 +28,6 @@ module _ (end : ℕ → ℕ) (v : ℕ) where
     where
       short : {k : ℕ} → after < k → k ≤ after + (n - after) → k ≤ n
       short l m = omega arith
-
-  -- a scan of the links 1 to n that began after link `after` and has come to link k
-  module _ (after n : ℕ) where
-    abbrev pub Scanned : ℕ → Type 0
-    Scanned k = lowest end v k (n - k) ≡ lowest end v after (n - after)
-
-    split : (k : ℕ) → k < n → lowest end v k (n - k) ≡ cond (eqb (end (k + 1)) v) (k + 1) (lowest end v (k + 1) (n - (k + 1)))
-    split k h =
-        let e : n - k ≡ suc (n - (k + 1)) = omega arith in
-        let e' : suc k ≡ k + 1 = omega arith in
-        ap (lowest end v k) e ∙ ap (λ j. cond (eqb (end j) v) j (lowest end v j (n - (k + 1)))) e'
-
-    pub lowest_hit : (k : ℕ) → k < n → Scanned k → end (k + 1) ≡ v → k + 1 ≡ lowest end v after (n - after)
-    lowest_hit k h s e = sym (ap (λ b. cond b (k + 1) (lowest end v (k + 1) (n - (k + 1)))) (eq-eqb _ _ e)) ∙ (sym (split k h) ∙ s)
-
-    pub lowest_more : (k : ℕ) → k < n → Scanned k → (end (k + 1) ≡ v → ⊥) → Scanned (k + 1)
-    lowest_more k h s e = sym (ap (λ b. cond b (k + 1) (lowest end v (k + 1) (n - (k + 1)))) (ne_eqb _ _ e)) ∙ (sym (split k h) ∙ s)
 
 -- there is one lowest link
 pub one_lowest : (end : ℕ → ℕ) (v after n k j : ℕ) → IsLowest end v after n k → IsLowest end v after n j → k ≡ j

@@ -1,7 +1,7 @@
 // Answers questions over a road book. Standard input has the book and then the questions, four words each; each gets one line.
 #![tactic(auto)]
 
-use books::road::RoadBook;
+use books::RoadBook;
 use network::Network;
 use queues::Queue;
 use queues::scan::ScanQueue;
@@ -10,7 +10,7 @@ use refusals::refusal::Refusal;
 use requests::question::{Kind, Request};
 use requests::{book_size, request};
 use search::estimate::NoEstimate;
-use search::memory::Memory as LentMemory;
+use search::memory::Memory;
 use search::question::{Answer, Question};
 use search::{arrive_by, depart_at};
 use std::alloc::{AllocError, Global};
@@ -19,18 +19,18 @@ use std::io::{BufWriter, Read, Write};
 
 // What is lent to each question: room for every place, and a cell for each road, of which there are fewer than places.
 #[derive(Drop)]
-struct Memory {
+struct Workspace {
     queue: ScanQueue,
     table: Vec<u32>,
     list: Vec<u32>,
 }
 
-impl Memory {
-    fn new(heap: Global, places: usize) -> Result<Memory, AllocError> {
+impl Workspace {
+    fn new(heap: Global, places: usize) -> Result<Workspace, AllocError> {
         let queue = ScanQueue::new(vec![in heap; None; places]?);
         let table = vec![in heap; 0; places]?;
         let list = vec![in heap; 0; places]?;
-        Ok(Memory { queue, table, list })
+        Ok(Workspace { queue, table, list })
     }
 
     fn ask(&mut self, book: &RoadBook, request: Request) -> Result<Answer, Refusal> {
@@ -39,7 +39,7 @@ impl Memory {
             destination: request.destination,
             tick: request.tick,
         };
-        let lent = LentMemory {
+        let lent = Memory {
             queue: &mut self.queue,
             table: &mut self.table,
             list: &mut self.list,
@@ -67,15 +67,15 @@ fn print_answer<W: Write>(out: &mut W, answer: Answer, list: &[u32]) -> io::Resu
 fn reply<W: Write>(
     out: &mut W,
     book: &RoadBook,
-    memory: &mut Memory,
+    workspace: &mut Workspace,
     part: &[u8],
 ) -> io::Result<()> {
     let request = match request(part) {
         Ok(request) => request,
         Err(unread) => return writeln!(out, "refused {}", unread.number()),
     };
-    match memory.ask(book, request) {
-        Ok(answer) => print_answer(out, answer, memory.list.as_slice()),
+    match workspace.ask(book, request) {
+        Ok(answer) => print_answer(out, answer, workspace.list.as_slice()),
         Err(refusal) => writeln!(out, "refused {}", refusal.number()),
     }
 }
@@ -87,9 +87,9 @@ fn answer_all<W: Write>(
     book: &RoadBook,
     questions: &[u8],
 ) -> io::Result<()> {
-    let mut memory = Memory::new(heap, book.places() as usize)?;
+    let mut workspace = Workspace::new(heap, book.places() as usize)?;
     for part in questions.chunks(16) {
-        reply(out, book, &mut memory, part)?;
+        reply(out, book, &mut workspace, part)?;
     }
     Ok(())
 }
