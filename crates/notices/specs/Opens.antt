@@ -1,7 +1,7 @@
 -- The earliest and the latest tick that isn't shut.
-use Rattle.std.specs.Prelude.{◌≡◌, ℕ, zero, suc, ◌+◌, ◌-◌, ◌<◌, ◌≤◌, Bool, true, false, cond, Some, Option, refl}
-use Rattle.std.proofs.Common.{sym, ap, ap₂, ◌∙◌, ⊎_elim, arith}
-use Rattle.std.proofs.lemmas.Bool.{cond-true, cond-false, both_ways, cases_eq}
+use Rattle.std.specs.Prelude.{◌≡◌, ℕ, zero, suc, ◌+◌, ◌<◌, ◌≤◌, Bool, true, false, cond, Some, Option, refl}
+use Rattle.std.proofs.Common.{sym, ap, ◌∙◌, ⊎_elim, arith}
+use Rattle.std.proofs.lemmas.Bool.{both_ways, cases_eq}
 use Rattle.network.specs.Laws.{NoLater, NotBefore}
 use Rattle.notices.specs.Closures.{open_from, open_below}
 
@@ -40,29 +40,3 @@ module _ (sh : ℕ → Bool) where
         most = λ u h q. ⊎_elim (λ z. absurd (both_ways (sh u) q (ap sh z ∙ e))) (λ ne. r.most u (omega arith) q) (cases_eq u t);
       }
       go false e r = record { lies = λ u q. let p : t ≡ u = cc in (omega arith, ap sh (sym p) ∙ e); most = λ u h q. omega arith }
-
-  skip : (d t n : ℕ) → ((s : ℕ) → t ≤ s → s < t + d → sh s ≡ true) → open_from sh t n ≡ open_from sh (t + d) (n - d)
-  skip zero t n h = ap₂ (open_from sh) (omega arith) (omega arith)
-  skip (suc d) t zero h = let z : 0 ≡ 0 - suc d = omega arith in ap (open_from sh (t + suc d)) z
-  skip (suc d) t (suc n) h =
-      cond-true (sh t) (open_from sh (suc t) n) (Some t) (h t (omega arith) (omega arith))
-      ∙ skip d (suc t) n (λ s l m. h s (omega arith) (omega arith))
-      ∙ ap₂ (open_from sh) (omega arith) (omega arith)
-
-  -- ticks that are shut are passed over
-  pub jump : (t u last : ℕ) → t ≤ u → ((s : ℕ) → t ≤ s → s < u → sh s ≡ true) → open_from sh u (suc last - u) ≡ open_from sh t (suc last - t)
-  jump t u last l h = sym (skip (u - t) t (suc last - t) (λ s m n. h s m (omega arith)) ∙ ap₂ (open_from sh) (omega arith) (omega arith))
-
-  pub stop : (t last : ℕ) → t ≤ last → sh t ≡ false → Some t ≡ open_from sh t (suc last - t)
-  stop t last l h = sym (ap (open_from sh t) {y = suc (last - t)} (omega arith) ∙ cond-false (sh t) (open_from sh (suc t) (last - t)) (Some t) h)
-
-  fall : (d f : ℕ) → ((s : ℕ) → f ≤ s → s < f + d → sh s ≡ true) → open_below sh (f + d) ≡ open_below sh f
-  fall zero f h = ap (open_below sh) (omega arith)
-  fall (suc d) f h =
-      let z : f + suc d ≡ suc (f + d) = omega arith in
-      ap (open_below sh) z
-      ∙ cond-true (sh (f + d)) (open_below sh (f + d)) (Some (f + d)) (h (f + d) (omega arith) (omega arith))
-      ∙ fall d f (λ s l m. h s l (omega arith))
-
-  pub back : (f t : ℕ) → f ≤ t → ((s : ℕ) → f ≤ s → s ≤ t → sh s ≡ true) → open_below sh f ≡ open_below sh (suc t)
-  back f t l h = let z : suc t ≡ f + (suc t - f) = omega arith in sym (ap (open_below sh) z ∙ fall (suc t - f) f (λ s m n. h s m (omega arith)))
