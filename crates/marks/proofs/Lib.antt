@@ -1,3 +1,4 @@
+pub mod Estimating
 pub mod Offering
 pub mod Leads
 pub mod Ranges

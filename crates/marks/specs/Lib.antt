@@ -1,4 +1,3 @@
 pub mod Columns
 pub mod Estimates
 pub mod Offers
-pub mod Estimating

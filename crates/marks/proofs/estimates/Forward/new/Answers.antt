@@ -1,4 +1,4 @@
-use Rattle.marks.specs.Estimating.{lead_small}
+use Rattle.marks.proofs.Estimating.{lead_small}
 use Rattle.marks.proofs.estimates.Forward.new.Goals as goal
 
 pub invariant_of-result : goal.invariant_of-result
