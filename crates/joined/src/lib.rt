@@ -138,6 +138,8 @@ impl<A: Network, B: Network> Network for Joined<A, B> {
         }
     }
 
+    // First and next links, out and in, are four questions of a network, and so four functions here too; what they share is
+    // `numbered_on`.
     fn first_out(&self, place: u32) -> u32 {
         let first = self.first.first_out(place);
         if first != 0 {

@@ -1,4 +1,4 @@
-// What marks estimate, forward and backward in time.
+// What marks estimate, forward and backward in time: two types, since they differ in which end of the way is fixed.
 ghost use Rattle.std.specs.Prelude.{◌≡◌, ℕ, ◌≤◌};
 ghost use Rattle.marks.specs.Estimates.{forward, backward};
 

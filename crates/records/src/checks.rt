@@ -135,7 +135,7 @@ impl Records {
         }
     }
 
-    // The first fault that one check finds.
+    // The first fault that one check finds. (By `for`: of `find_map` over a range the check found no proof.)
     fn first(&self, check: Check) -> Option<Fault>
         ensures { result ≡ first_of (fault_by (book_of self.now) check) (count_for self.now.header check) }
     {
