@@ -13,7 +13,7 @@ use Rattle.network.specs.Laws.{Laws}
 use Rattle.network.specs.Links.{first, next, lowest, IsLowest}
 use Rattle.network.proofs.Lowest.{lowest_found}
 use Rattle.network.proofs.Ranges.{true_among, among_true}
-use Rattle.search.specs.Labels.{Fits, Sought}
+use Rattle.search.specs.Labels.{label, Carries, Fits, Sought}
 use Rattle.search.specs.declared.links.Links.{Links}
 use Rattle.search.specs.declared.links.Side.{Side}
 use Rattle.search.specs.declared.links.Side.TheVariants.{Into}
@@ -78,15 +78,22 @@ module _ (net : Meaning) (law : Laws net) (cells : List ℕ) (p : ℕ) where
         }
   ]
 
+  -- a link into the place fits exactly where it carries to the label of that
+  carries_fits : {k own : ℕ} → net.head k ≡ p → label cells p ≡ suc own → Carries net cells own k → Fits net cells p k
+  carries_fits into own c = record { link = c.link; into = into; from = c.from; to = _; from_label = c.from_label; to_label = own; carries = c.carries }
+
+  fits_carries : {k own : ℕ} → label cells p ≡ suc own → Fits net cells p k → Carries net cells own k
+  fits_carries own f = record { link = f.link; from = f.from; from_label = f.from_label; carries = f.carries ∙ ap Some (omega (arith, own, f.to_label)) }
+
   -- a walk goes on from a link that doesn't fit
-  seek_more : {k at : ℕ} → Seeking net cells p k → 1 ≤ k → (Fits net cells (net.head k) k → ⊥) → at ≡ next net net.head k → Seeking net cells p at
+  seek_more : {k at : ℕ} → Seeking net cells p k → 1 ≤ k → (Fits net cells p k → ⊥) → at ≡ next net net.head k → Seeking net cells p at
   seek_more {k} {at} was l off e =
       let o = was.link l in
       let low = subst (λ q. IsLowest net.head q k net.links at) o.1 (subst (IsLowest net.head (net.head k) k net.links) (sym e) (next_lowest net net.head k o.0)) in
       record {
         link = lowest_link net net.head low;
         passed = λ j f b. elim (cases_order j k) [
-          | inl q ↦ off (subst (λ w. Fits net cells w k) (sym o.1) (subst (Fits net cells p) q f))
+          | inl q ↦ off (subst (Fits net cells p) q f)
           | inr (inl m) ↦ was.passed j f (λ _. m)
           | inr (inr m) ↦ omega (arith, lowest_none net net.head low f.link f.into b)
         ];
@@ -96,11 +103,11 @@ module _ (net : Meaning) (law : Laws net) (cells : List ℕ) (p : ℕ) where
 pub comes : {N : Type 0} (meaning : N → Meaning) {net : Meaning} (side : Side) (s t : Links N) (r : Option ℕ) → meaning s.net.now ≡ net → s.side ≡ side → link_steps meaning s r t → Comes net (end_on net side) s.next r t.next
 comes meaning {net} side s t r over on step = subst (λ m. Comes m (end_on m side) s.next r t.next) over (subst (λ x. Comes (meaning s.net.now) (end_on (meaning s.net.now) x) s.next r t.next) on step.2)
 
--- what a walk over the links into a place finds, where the call of f says whether a link fits
-module _ {N F : Type 0} (meaning : N → Meaning) (lent : Bor N) (law : Laws (meaning lent.now)) (cells : List ℕ) (p : ℕ)
+-- what a walk over the links into a place finds, where the call of f says whether a link carries to the label of that
+module _ {N F : Type 0} (meaning : N → Meaning) (lent : Bor N) (law : Laws (meaning lent.now)) (cells : List ℕ) (p own : ℕ) (labelled : label cells p ≡ suc own)
     {g : Mut F (Bor ℕ × Unit {0}) Bool} (f : F)
-    (yes : (k : ℕ) (q : F) → CalledAt g f k true q → Fits (meaning lent.now) cells ((meaning lent.now).head k) k)
-    (no : (k : ℕ) (q : F) → CalledAt g f k false q → (q ≡ f) × (Fits (meaning lent.now) cells ((meaning lent.now).head k) k → ⊥)) where
+    (yes : (k : ℕ) (q : F) → CalledAt g f k true q → Carries (meaning lent.now) cells own k)
+    (no : (k : ℕ) (q : F) → CalledAt g f k false q → (q ≡ f) × (Carries (meaning lent.now) cells own k → ⊥)) where
   -- a walk under way
   record Along (s : Links N) : Type 0 where
     net : s.net ≡ lent
@@ -114,7 +121,7 @@ module _ {N F : Type 0} (meaning : N → Meaning) (lent : Bor N) (law : Laws (me
       let (same, off) = no k q call in
       let at_k : Seeking (meaning lent.now) cells p k = subst (Seeking (meaning lent.now) cells p) (sym here) was.passed in
       passed_all xs u t j
-      (record { net = step.0 ∙ was.net; side = step.1 ∙ was.side; passed = seek_more (meaning lent.now) law cells p at_k low off after })
+      (record { net = step.0 ∙ was.net; side = step.1 ∙ was.side; passed = seek_more (meaning lent.now) law cells p at_k low (λ f. off (fits_carries (meaning lent.now) law cells p labelled f)) after })
       y (subst (λ z. FoldsTo (λ a x b. CalledAt g a x false b) z xs j) same calls)
 
   pub sought : (s u : Links N) (r : Option ℕ) → s.net ≡ lent → s.side ≡ Into → s.next ≡ first (meaning lent.now) (meaning lent.now).head p
@@ -127,6 +134,6 @@ module _ {N F : Type 0} (meaning : N → Meaning) (lent : Bor N) (law : Laws (me
       go None end _ same was = λ k fits. was.passed k fits (λ l. absurd (omega arith))
       go (Some k) (here, low, _) (h, call) same was =
           let at_k : Seeking (meaning lent.now) cells p k = subst (Seeking (meaning lent.now) cells p) (sym here) was in (
-            subst (λ z. Fits (meaning lent.now) cells z k) (at_k.link low).1 (yes k h (subst (λ z. CalledAt g z k true h) same call)),
+            carries_fits (meaning lent.now) law cells p (at_k.link low).1 labelled (yes k h (subst (λ z. CalledAt g z k true h) same call)),
             λ i fits. elim (cases_lt i k) [ inl m ↦ absurd (at_k.passed i fits (λ _. m)) | inr m ↦ m ],
           )

@@ -96,6 +96,13 @@ pub record Found (net : Meaning) (h : ℕ → ℕ) (s t : ℕ) (goal : Option �
   pub sound : Sound net s t cells
   pub best : (v a : ℕ) (roads : List ℕ) → Journey net s t roads v a → Within (goal_arrival cells goal) (a + h v) → By (label cells v) a
 
+-- link k, entered at the label of its tail, arrives at tick b
+pub record Carries (net : Meaning) (cells : List ℕ) (b k : ℕ) : Type 0 where
+  pub link : IsLink net k
+  pub from : ℕ
+  pub from_label : label cells (net.tail k) ≡ suc from
+  pub carries : net.arrival k from ≡ Some b
+
 -- link k leads into place v and, entered at the label of its tail, arrives at the label of v
 pub record Fits (net : Meaning) (cells : List ℕ) (v k : ℕ) : Type 0 where
   pub link : IsLink net k
