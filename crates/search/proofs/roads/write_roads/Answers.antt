@@ -1,10 +1,7 @@
-use Rattle.std.proofs.Common.{refl, ◌∙◌, arith}
+use Rattle.std.proofs.Common.{◌∙◌, arith}
 use Rattle.std.proofs.lemmas.List.{set-get_or}
-use Rattle.search.proofs.RoadWalks.{begun, writing_none, writing_stuck, writing_more, writing_all}
+use Rattle.search.proofs.RoadWalks.{writing_stuck, writing_more, writing_all}
 use Rattle.search.proofs.roads.write_roads.Goals as goal
-
-pub loop-cell-init : goal.loop-cell-init
-loop-cell-init g c = writing_none _ _ _ _ _ c.args.list.now (begun _ _ (g.met.N.Network.lawful c.args.net.now) c.args.cells.now c.args.start c.requires.labelled.there c.new-roads.ensures refl refl)
 
 pub returns-in_default : goal.returns-in_default
 returns-in_default g c = λ back b e.

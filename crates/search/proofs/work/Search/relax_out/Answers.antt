@@ -1,5 +1,4 @@
-use Rattle.std.proofs.Common.{Some, sym, refl, ap, ◌∙◌, subst, arith}
-use Rattle.network.specs.Meaning.{IsLink}
+use Rattle.std.proofs.Common.{Some, sym, refl, ap, ◌∙◌}
 use Rattle.search.specs.declared.links.Side.TheVariants.{Out}
 use Rattle.search.proofs.Tables.{arrival_some, label_time}
 use Rattle.search.proofs.Walks.{comes}
@@ -15,17 +14,6 @@ loop-link-init g c =
       out = ap (λ l. l.side) same ∙ links.side;
       stays = (refl, refl, refl, refl, refl);
       walking = walk_start (ap (λ l. l.next) same ∙ links.first) c.requires.place (arrival_some _ _ (sym c.arrival.ensures ∙ c.in-Some.is)) c.requires.taken;
-    }
-
-pub relax-requires : goal.relax-requires
-relax-requires g c =
-    let was = c.loop-link.invariant in
-    let come = comes g.N.Network.meaning Out _ _ (Some c.in-Some-link.link) was.over was.out c.in-Some-link.ensures.steps in
-    let link = subst (IsLink (g.N.Network.meaning c.args.self.now.net.now)) (sym come.0) (was.walking.link (omega (arith, come.0, come.1))).0 in
-    let tick = label_time c.args.self.now.labels.now c.args.place (sym c.arrival.ensures ∙ c.in-Some.is) c.requires.early in
-    record {
-      link = rw was.stays.0 link;
-      tick = rw was.stays.0 tick;
     }
 
 pub loop-link-preserved : goal.loop-link-preserved

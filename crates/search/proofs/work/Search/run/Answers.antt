@@ -1,22 +1,14 @@
 use Rattle.std.proofs.Common.{sym, ap, ◌∙◌, subst, arith}
-use Rattle.search.specs.Labels.{Found, Sound}
+use Rattle.search.specs.Labels.{Found}
 use Rattle.search.proofs.Turns.{sound_early, turn_falls, turn_state, past_settled, empty_settled, found}
 use Rattle.search.proofs.work.Search.run.Goals as goal
 use Rattle.search.proofs.work.Search.run.Goals.{in-Some+then-is_past, in_default}
 
-pub relax_out-requires : goal.relax_out-requires
-relax_out-requires g c =
-    let laws = g.met.N.Network.lawful c.args.self.now.net.now in
+pub relax_out-requires-clause-early : goal.relax_out-requires-clause-early
+relax_out-requires-clause-early g c =
     let was = c.loop-key.invariant.state in
-    let over = c.loop-key.invariant.stays.0 in
-    let out = c.in-Some.ensures.taken in
-    let keyed = was.keyed _ _ out.best.there in
-    record {
-      place = rw over keyed.place;
-      labelled = keyed.labelled;
-      early = rw over (omega (arith, sound_early laws _ c.requires.tick was.sound _ keyed.place.high));
-      taken = out.gone;
-    }
+    let keyed = was.keyed _ _ c.in-Some.ensures.taken.best.there in
+    rw c.loop-key.invariant.stays.0 (omega (arith, sound_early (g.met.N.Network.lawful c.args.self.now.net.now) _ c.requires.tick was.sound _ keyed.place.high))
 
 pub loop-key-smaller : goal.loop-key-smaller
 loop-key-smaller g c =
@@ -31,14 +23,6 @@ loop-key-preserved g c =
       stays = (now.0 ∙ was.0, now.1 ∙ was.1, now.2 ∙ was.2, now.3 ∙ was.3, now.4 ∙ (c.in-Some.ensures.capacity ∙ was.4));
       state = turn_state c.loop-key.invariant.state c.in-Some.ensures.taken (rw (was.0, was.1) at c.relax_out.ensures.walk);
     }
-
-pub returns-clause-sound : goal.returns-clause-sound
-returns-clause-sound g c =
-    let was = c.loop-key.invariant.state in
-    elim c.match-take.branch [
-      | in-Some+then-is_past w ↦ subst (Sound (g.N.Network.meaning c.args.self.now.net.now) c.args.start c.args.tick) (sym (ap (λ s. s.1.1.1.1.0.now) w.self-is)) was.sound
-      | in_default w ↦ subst (Sound (g.N.Network.meaning c.args.self.now.net.now) c.args.start c.args.tick) (sym (ap (λ s. s.1.1.1.1.0.now) w.self-is)) was.sound
-    ]
 
 pub returns-clause-found : goal.returns-clause-found
 returns-clause-found g c even =
