@@ -19,7 +19,8 @@ impl Drop for Work<'_> {
     }
 }
 
-// A search over a network, with a label for each place.
+// A search over a network, with a label for each place. That a method leaves the network, the estimate and the lengths as they are is
+// in its contract (`Stays`) and in no ghost field, since a field behind `&mut self` can be replaced.
 #[derive(Drop)]
 pub(crate) struct Search<'a, N: Network, E, Q: Queue> {
     pub(crate) net: &'a N,
