@@ -113,6 +113,7 @@ impl Records {
         None
     }
 
+    #[tactic(auto, unfolding(crate::specs::Faults::fault_by))]
     fn fault(&self, check: Check, number: u32) -> Option<Fault>
         ensures { result ≡ fault_by (book_of self.now) check number }
     {

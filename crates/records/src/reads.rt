@@ -8,6 +8,7 @@ use crate::records::Records;
 use network::among;
 
 impl Records {
+    #[tactic(auto, unfolding(crate::specs::Layout::place_at))]
     pub fn place(&self, number: u32) -> Place
         ensures { result ≡ (book_of self.now).place number }
     {
@@ -22,6 +23,7 @@ impl Records {
         }
     }
 
+    #[tactic(auto, unfolding(crate::specs::Layout::link_at))]
     pub fn link(&self, number: u32) -> Link
         ensures { result ≡ (book_of self.now).link number }
     {
@@ -40,6 +42,7 @@ impl Records {
         }
     }
 
+    #[tactic(auto, unfolding(crate::specs::Layout::point_at))]
     pub fn point(&self, number: u32) -> Point
         ensures { result ≡ (book_of self.now).point number }
     {

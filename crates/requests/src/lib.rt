@@ -17,6 +17,7 @@ mod tests;
 const MOST: usize = 16384;
 
 // How many of the words are the book at their front, or what is wrong with it. The book's records aren't judged.
+#[tactic(auto, unfolding(crate::specs::Requests::front_fault))]
 pub fn book_size(words: &[u32]) -> Result<usize, Fault>
     ensures cases { MatchResult result (λ n. (front_fault words.now ≡ None) × (n ≡ size (header_in words.now))) (λ f. front_fault words.now ≡ Some f) }
     ensures within { IfOk result (λ n. n ≤ length words.now) }

@@ -1,8 +1,8 @@
-use Rattle.std.proofs.Common.{◌≡◌, ℕ, ◌+◌, List, length, drop, Some, None, sym, refl, ap, ◌∙◌, subst, arith, length-drop}
+use Rattle.std.proofs.Common.{◌≡◌, ℕ, ◌+◌, List, length, drop, None, sym, refl, ap, ◌∙◌, subst, arith, length-drop}
 use Rattle.records.specs.declared.kind.Kind.{Kind}
 use Rattle.records.specs.Layout.{header_in, within, size}
 use Rattle.records.specs.Faults.{header_fault}
-use Rattle.records.proofs.Unless.{or_first, or_next}
+use Rattle.records.proofs.Unless.{or_next}
 use Rattle.records.proofs.Headers.{read_from_none, not_full, full}
 use Rattle.records.proofs.records.Records.read.Goals as goal
 
@@ -13,9 +13,6 @@ module _ (kind : Kind) (words slice rest : List ℕ) (same : slice ≡ words) (n
 
   whole : 5 + length rest ≡ length words
   whole = let l = (read_from_none kind words right).long in ap (λ xs. 5 + length xs) (cut ∙ ap (drop 5) same) ∙ simp length-drop (omega arith)
-
-pub returns-in-Err : goal.returns-in-Err
-returns-in-Err c = (or_first _ _ _ (subst (λ ws. header_fault c.args.kind ws ≡ Some c.in-Err.fault) c.as_slice.ensures.value c.in-Err.ensures), refl)
 
 pub returns-then-rest-size : goal.returns-then-rest-size
 returns-then-rest-size c =
