@@ -60,7 +60,7 @@ module _ {N : Type 0} (meaning : N → Meaning) (net : Meaning) (law : Laws net)
   -- it has come to place v
   pub record At (v : ℕ) (s : RoadsBack N) : Type 0 where
     pub over : meaning s.net.now ≡ net
-    pub labels : s.cells.now ≡ cells
+    pub labels : s.labels.now ≡ cells
     pub from : s.start ≡ start
     pub at : s.at ≡ v
     pub there : 1 ≤ label cells v
@@ -69,12 +69,12 @@ module _ {N : Type 0} (meaning : N → Meaning) (net : Meaning) (law : Laws net)
   steps_at {v} {s} r t was step =
       subst (λ m. GoesBack m cells start v r t.at) was.over
       (subst (λ c. GoesBack (meaning s.net.now) c start v r t.at) was.labels
-      (subst (λ x. GoesBack (meaning s.net.now) s.cells.now x v r t.at) was.from
-      (subst (λ x. GoesBack (meaning s.net.now) s.cells.now s.start x r t.at) was.at step.3)))
+      (subst (λ x. GoesBack (meaning s.net.now) s.labels.now x v r t.at) was.from
+      (subst (λ x. GoesBack (meaning s.net.now) s.labels.now s.start x r t.at) was.at step.3)))
 
   -- a walk is begun
-  pub begun : {v : ℕ} {s : RoadsBack N} {lent : Bor N} {table : Bor (List ℕ)} → 1 ≤ label cells v → s ≡ record { net = lent; cells = table; start = start; at = v } → meaning lent.now ≡ net → table.now ≡ cells → At v s
-  begun there e n c = record { over = ap (λ r. meaning r.net.now) e ∙ n; labels = ap (λ r. r.cells.now) e ∙ c; from = ap (λ r. r.start) e; at = ap (λ r. r.at) e; there = there }
+  pub begun : {v : ℕ} {s : RoadsBack N} {lent : Bor N} {table : Bor (List ℕ)} → 1 ≤ label cells v → s ≡ record { net = lent; labels = table; start = start; at = v } → meaning lent.now ≡ net → table.now ≡ cells → At v s
+  begun there e n c = record { over = ap (λ r. meaning r.net.now) e ∙ n; labels = ap (λ r. r.labels.now) e ∙ c; from = ap (λ r. r.start) e; at = ap (λ r. r.at) e; there = there }
 
   -- it goes on at the tail of the road that comes
   pub onward : {v : ℕ} {s : RoadsBack N} (k : ℕ) (t : RoadsBack N) → At v s → back_steps meaning s (Some k) t → At (net.tail k) t

@@ -18,4 +18,4 @@ GoesBack net cells s v (Some k) v' = (v ≢ s) × Sought net cells v (Some k) ×
 
 -- what such a walk gives, and that it stays on its network, its labels and its start
 abbrev pub back_steps : {N : Type 0} → (N → Meaning) → RoadsBack N → Option ℕ → RoadsBack N → Type 0
-back_steps meaning s r t = (t.net ≡ s.net) × (t.cells ≡ s.cells) × (t.start ≡ s.start) × GoesBack (meaning s.net.now) s.cells.now s.start s.at r t.at
+back_steps meaning s r t = (t.net ≡ s.net) × (t.labels ≡ s.labels) × (t.start ≡ s.start) × GoesBack (meaning s.net.now) s.labels.now s.start s.at r t.at

@@ -6,4 +6,4 @@ use Rattle.search.proofs.roads.count_roads.Goals as goal
 pub returns : goal.returns
 returns g c = λ back b.
     count_from_yields_List c.new.result _ c.count.ensures.ran
-    (YieldsList-from_back _ _ _ _ _ b c.new.result (begun _ _ (g.met.N.Network.lawful c.args.net.now) c.args.cells.now c.args.start c.requires.labelled.there c.new.ensures refl refl))
+    (YieldsList-from_back _ _ _ _ _ b c.new.result (begun _ _ (g.met.N.Network.lawful c.args.net.now) c.args.labels.now c.args.start c.requires.labelled.there c.new.ensures refl refl))
