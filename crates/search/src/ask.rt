@@ -91,7 +91,7 @@ impl<'a, N: Network, E: Estimate, Q: Queue> Search<'a, N, E, Q> {
 }
 
 // Asks over the network that is searched; the roads stand as they are found, from the destination back. (It takes the memory in parts:
-// moved on whole, beside a network that stands for less long, the check gives it a new value, and the proof doesn't close.)
+// moved on whole, beside a network that stands for less long, the check gives it a new value; by `&mut` it isn't covered.)
 fn ask<'a, N: Network, E: Estimate, Q: Queue>(
     net: &'a N,
     estimate: &'a E,
