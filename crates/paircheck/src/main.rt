@@ -30,6 +30,7 @@ fn describe_sailings<K: BookKind>(rt: &HostRuntime, book: &Book<K>, link: u32) -
     println!(rt)
 }
 
+// What is said of a link depends on the kind, and only here.
 fn describe<K: BookKind>(rt: &HostRuntime, book: &Book<K>) -> io::Result<()> {
     let kind = book.kind();
     let places = book.places();

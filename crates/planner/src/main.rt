@@ -33,6 +33,7 @@ impl Workspace {
         Ok(Workspace { queue, table, list })
     }
 
+    // Which question it is comes with the input, so by match.
     fn ask(&mut self, book: &RoadBook, request: Request) -> Result<Answer, Refusal> {
         let question = Question {
             start: request.start,

@@ -13,7 +13,7 @@ pub trait Queue {
     // the key of each place that is held, and none for every other
     ghost held: { Self → ℕ → Option ℕ };
 
-    // the highest place that can be held
+    // the highest place that can be held; each method says that it stays, since a trait has no field that could
     ghost capacity: { Self → ℕ };
 
     fn capacity(&self) -> usize

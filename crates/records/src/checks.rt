@@ -59,7 +59,8 @@ impl Point {
             && floor <= self.arrival - self.departure
     }
 
-    // Whether it may follow the point before, if there is one: on a road it departs later and arrives no earlier.
+    // Whether it may follow the point before, if there is one: on a road it departs later and arrives no earlier. (The kind is a value
+    // here and no type: this is all that the records ask of it.)
     fn follows(&self, kind: Kind, before: &Option<Point>) -> bool
         ensures { result ≡ follows kind before.now self.now }
     {
