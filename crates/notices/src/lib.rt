@@ -1,4 +1,5 @@
 // Notices that change when the links of a network arrive: closures and delays, up to 32 of each, in fixed memory.
+// They are two types, since they are found by different things and refuse different things.
 #![tactic(auto)]
 
 pub mod closures;

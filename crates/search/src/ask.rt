@@ -44,6 +44,8 @@ fn admit<N: Network, Q: Queue>(
     Ok(())
 }
 
+// That the roads are no more than the cells of the list is said by each of the next three, fit estimate or not: an answer is a number
+// of roads and doesn't know the list.
 impl<'a, N: Network, E: Estimate, Q: Queue> Search<'a, N, E, Q> {
     // The answer by the labels of a search for the destination; the roads stand as they are found, from the destination back.
     fn told(&self, list: &mut [u32], question: Question) -> Result<Answer, Refusal>
