@@ -12,6 +12,7 @@ use sentences::{Departures, LinkOf, Stray, WordCount};
 use std::io;
 use std::io::Read;
 
+// Its words are its own, and not those of `paircheck`: it knows no kind, and says "1 places".
 fn describe(rt: &HostRuntime, book: &RoadBook) -> io::Result<()> {
     let places = book.places();
     let links = book.links();
@@ -22,7 +23,8 @@ fn describe(rt: &HostRuntime, book: &RoadBook) -> io::Result<()> {
     )?;
     for link in 1..=links {
         let departures = Departures(book.ends(link));
-        let link = LinkOf { book, link };
+        let network = book;
+        let link = LinkOf { network, link };
         println!(rt; "{link}{departures}")?;
     }
     Ok(())

@@ -9,7 +9,8 @@ ghost use Rattle.books.specs.Networks.{arrival_by, back_by};
 use records::chain::Chain;
 use records::kind::Kind;
 
-// How the points along a chain say when a link arrives.
+// How the points along a chain say when a link arrives. Its module is private, so nobody but a book calls these functions, which ask
+// for points in order.
 pub trait BookKind {
     ghost kind: { Kind };
 

@@ -2,7 +2,7 @@
 #![tactic(auto)]
 
 pub mod book;
-pub mod kinds;
+mod kinds;
 mod net;
 mod open;
 pub mod pair;

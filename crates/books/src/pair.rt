@@ -2,7 +2,7 @@
 ghost use Rattle.books.specs.Pairs.{OpenedBoth};
 
 use crate::{RoadBook, Timetable};
-use joined::{Joined, Unjoined};
+use joined::Joined;
 use records::kind::Kind;
 use records::refused::Refused;
 use refusals::fault::Fault;
@@ -53,18 +53,9 @@ pub fn open_both(
             });
         }
     };
-    match Joined::join(roads, ferries) {
-        Ok(both) => Ok(both),
-        Err(
-            Unjoined {
-                misfit,
-                first,
-                second,
-            },
-        ) => Err(RefusedPair {
-            fault: PairFault::Joining(misfit),
-            roads: first.into_words(),
-            ferries: second.into_words(),
-        }),
-    }
+    Joined::join(roads, ferries).map_err(|apart| RefusedPair {
+        fault: PairFault::Joining(apart.misfit),
+        roads: apart.first.into_words(),
+        ferries: apart.second.into_words(),
+    })
 }

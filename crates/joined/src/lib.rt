@@ -139,7 +139,7 @@ impl<A: Network, B: Network> Network for Joined<A, B> {
     }
 
     // First and next links, out and in, are four questions of a network, and so four functions here too; what they share is
-    // `numbered_on`.
+    // `numbered_on`. 0 says that there is none, as of every network.
     fn first_out(&self, place: u32) -> u32 {
         let first = self.first.first_out(place);
         if first != 0 {

@@ -1,4 +1,5 @@
-// What marks estimate, forward and backward in time: two types, since they differ in which end of the way is fixed.
+// What marks estimate, forward and backward in time: two types, since one type with a direction in it
+// would ask for that at each place.
 ghost use Rattle.std.specs.Prelude.{◌≡◌, ℕ, ◌≤◌};
 ghost use Rattle.marks.specs.Estimates.{forward, backward};
 

@@ -5,7 +5,7 @@ ghost use Rattle.notices.specs.Closures.{shuts, next_open, last_open};
 
 use crate::notice::Closure;
 
-// The first closure that shuts the link at the tick.
+// The first closure that shuts the link at the tick. (Link and tick are two arguments here and below: a walk changes the tick alone.)
 fn shutting(closures: &[Closure], link: u32, tick: u32) -> Option<Closure>
     ensures { result ≡ find (shuts link tick) closures.now }
 {

@@ -3,11 +3,8 @@
 #![tactic(auto)]
 
 use anyhow::anyhow;
-use books::book::Book;
-use books::kinds::BookKind;
 use books::pair::{PairFault, open_both};
-use books::roads::Roads;
-use books::sailings::Sailings;
+use books::{RoadBook, Timetable};
 use network::Network;
 use records::bytes;
 use records::kind::Kind;
@@ -20,41 +17,49 @@ fn plural(count: u32) -> &'static str {
     if count == 1 { "" } else { "s" }
 }
 
-fn describe_sailings<K: BookKind>(rt: &HostRuntime, book: &Book<K>, link: u32) -> io::Result<()> {
-    for (_, sailing) in book.chain(link) {
-        print!(rt;
-            " It sails at {}, arriving at {}.",
-            sailing.departure, sailing.arrival
-        )?;
-    }
-    println!(rt)
-}
-
-// What is said of a link depends on the kind, and only here.
-fn describe<K: BookKind>(rt: &HostRuntime, book: &Book<K>) -> io::Result<()> {
-    let kind = book.kind();
-    let places = book.places();
-    let links = book.links();
-    let points = book.points();
-    let last = book.last_tick();
+fn describe_counts<N: Network>(
+    rt: &HostRuntime,
+    kind: Kind,
+    network: &N,
+    points: u32,
+) -> io::Result<()> {
+    let places = network.places();
+    let links = network.links();
+    let last = network.last_tick();
     println!(rt;
         "A {kind} of {places} place{}, {links} link{} and {points} point{}. The last tick is {last}.",
         plural(places),
         plural(links),
         plural(points)
-    )?;
-    for link in 1..=links {
-        print!(rt; "{}", LinkOf { book, link })?;
-        match kind {
-            Kind::Road => println!(rt; "{}", Departures(book.ends(link)))?,
-            Kind::Timetable => describe_sailings(rt, book, link)?,
-        }
+    )
+}
+
+fn describe_roads(rt: &HostRuntime, network: &RoadBook) -> io::Result<()> {
+    describe_counts(rt, Kind::Road, network, network.points())?;
+    for link in 1..=network.links() {
+        let departures = Departures(network.ends(link));
+        println!(rt; "{}{departures}", LinkOf { network, link })?;
     }
     Ok(())
 }
 
-fn explain<K: BookKind>(rt: &HostRuntime, fault: Fault, words: &[u32]) -> io::Result<()> {
-    let kind = K::kind();
+fn describe_ferries(rt: &HostRuntime, network: &Timetable) -> io::Result<()> {
+    describe_counts(rt, Kind::Timetable, network, network.points())?;
+    for link in 1..=network.links() {
+        print!(rt; "{}", LinkOf { network, link })?;
+        for (_, sailing) in network.chain(link) {
+            print!(rt;
+                " It sails at {}, arriving at {}.",
+                sailing.departure, sailing.arrival
+            )?;
+        }
+        println!(rt)?;
+    }
+    Ok(())
+}
+
+// Says what is wrong; a wrong number of words is counted.
+fn explain(rt: &HostRuntime, kind: Kind, fault: Fault, words: WordCount) -> io::Result<()> {
     let cause = fault.cause;
     let number = cause.number();
     let record = fault.at;
@@ -67,37 +72,43 @@ fn explain<K: BookKind>(rt: &HostRuntime, fault: Fault, words: &[u32]) -> io::Re
     if cause != Cause::Length {
         return Ok(());
     }
-    let count = WordCount {
-        count: words.len(),
-        header: Book::<K>::header(words),
-    };
-    println!(rt; "{count}")
+    println!(rt; "{words}")
 }
 
-fn check<K: BookKind>(rt: &HostRuntime, words: Vec<u32>) -> anyhow::Result<()> {
-    match Book::<K>::open(words) {
-        Ok(book) => Ok(describe(rt, &book)?),
-        Err(refused) => {
-            explain::<K>(rt, refused.fault, refused.words.as_slice())?;
-            Err(anyhow!("the book is refused"))
-        }
-    }
+fn explain_roads(rt: &HostRuntime, fault: Fault, words: &[u32]) -> io::Result<()> {
+    let count = words.len();
+    let header = RoadBook::header(words);
+    explain(rt, Kind::Road, fault, WordCount { count, header })
+}
+
+fn explain_ferries(rt: &HostRuntime, fault: Fault, words: &[u32]) -> io::Result<()> {
+    let count = words.len();
+    let header = Timetable::header(words);
+    explain(rt, Kind::Timetable, fault, WordCount { count, header })
 }
 
 // One book, of the kind that its first word says; a word that says none is taken for a road book's.
 fn check_one(rt: &HostRuntime, words: Vec<u32>) -> anyhow::Result<()> {
     let named = words.first().and_then(|word| Kind::try_from(*word).ok());
-    match named.unwrap_or(Kind::Road) {
-        Kind::Road => check::<Roads>(rt, words),
-        Kind::Timetable => check::<Sailings>(rt, words),
-    }
+    let refused = match named.unwrap_or(Kind::Road) {
+        Kind::Road => match RoadBook::open(words) {
+            Ok(book) => return Ok(describe_roads(rt, &book)?),
+            Err(refused) => explain_roads(rt, refused.fault, refused.words.as_slice()),
+        },
+        Kind::Timetable => match Timetable::open(words) {
+            Ok(book) => return Ok(describe_ferries(rt, &book)?),
+            Err(refused) => explain_ferries(rt, refused.fault, refused.words.as_slice()),
+        },
+    };
+    refused?;
+    Err(anyhow!("the book is refused"))
 }
 
 fn check_both(rt: &HostRuntime, roads: Vec<u32>, ferries: Vec<u32>) -> anyhow::Result<()> {
     let refused = match open_both(roads, ferries) {
         Ok(both) => {
-            describe(rt, &both.first)?;
-            describe(rt, &both.second)?;
+            describe_roads(rt, &both.first)?;
+            describe_ferries(rt, &both.second)?;
             let before = both.first.links();
             let links = both.links();
             println!(rt;
@@ -109,8 +120,8 @@ fn check_both(rt: &HostRuntime, roads: Vec<u32>, ferries: Vec<u32>) -> anyhow::R
     };
     match refused.fault {
         PairFault::Half { half, fault } => match half {
-            Kind::Road => explain::<Roads>(rt, fault, refused.roads.as_slice())?,
-            Kind::Timetable => explain::<Sailings>(rt, fault, refused.ferries.as_slice())?,
+            Kind::Road => explain_roads(rt, fault, refused.roads.as_slice())?,
+            Kind::Timetable => explain_ferries(rt, fault, refused.ferries.as_slice())?,
         },
         PairFault::Joining(misfit) => {
             let number = misfit.number();

@@ -64,7 +64,7 @@ fn lower(keys: &mut [Option<u32>], place: u32, key: u32) -> bool
     if place == 0 || place as usize > keys.len() {
         return false;
     }
-    // By its index, since `get_mut` would only hide that place 1 comes first.
+    // Tested and then indexed: `checked_sub` and `get_mut` would take as many lines, and a closure.
     let at = place as usize - 1;
     keys[at] = Some(keys[at].map_or(key, |old| old.min(key)));
     true

@@ -8,7 +8,7 @@ use crate::layout::Point;
 use crate::records::Records;
 
 // The points still to come, each with its number. It stops after as many points as the book has, so a chain can be walked before its
-// next points are known to rise.
+// next points are known to rise. An index of 0 ends it, as the format has it.
 #[derive(Drop)]
 pub struct Chain<'a> {
     records: &'a Records,

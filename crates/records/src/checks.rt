@@ -137,7 +137,8 @@ impl Records {
         }
     }
 
-    // The first fault that one check finds. (By `for`: of `find_map` over a range the check found no proof.)
+    // The first fault that one check finds. (By `for`, and so the next: of `find_map` the
+    // check found no proof.)
     fn first(&self, check: Check) -> Option<Fault>
         ensures { result ≡ first_of (fault_by (book_of self.now) check) (count_for self.now.header check) }
     {

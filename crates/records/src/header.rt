@@ -7,18 +7,17 @@ use crate::kind::Kind;
 use crate::layout::Header;
 use crate::records::Records;
 use crate::refused::Refused;
+use network::among;
 use refusals::fault::{Cause, Fault, Record};
 
 impl Header {
     fn within_limits(&self) -> bool
         ensures { result ≡ within self.now }
     {
-        self.places >= 1
-            && self.places <= 1024
+        among(self.places, 1024)
             && self.links <= 4096
             && self.points <= 16384
-            && self.last >= 1
-            && self.last <= 604800
+            && among(self.last, 604800)
     }
 
     // How many words a book with this header has.

@@ -17,7 +17,7 @@ pub enum Kind {
 pub struct UnknownKind(pub u32);
 
 impl Kind {
-    // The first word of a book of this kind.
+    // The first word of a book of this kind. (A method and no `From`, as in `refusals`.)
     pub fn number(&self) -> u32
         ensures { result ≡ kind_number self.now }
     {

@@ -72,6 +72,7 @@ impl Records {
 }
 
 impl Link {
+    // (By match: which end is asked for is a value, of the definition too.)
     pub(crate) fn end(&self, end: End) -> u32
         ensures { result ≡ end_of end self.now }
     {

@@ -1,5 +1,5 @@
-// What is refused, by its number and in words. A number is asked for by a method and not by `u32::from`, whose name would not say which
-// of a refusal's numbers it gives: its own, or that of a link, a record or the cells needed.
+// What is refused, by its number and in words. The number is given by a method of that name, as a length is by `len`: `u32::from` would
+// be no plainer, and would not say what of a refusal becomes a number.
 #![tactic(auto)]
 
 pub mod column;

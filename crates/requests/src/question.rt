@@ -23,7 +23,7 @@ impl TryFrom<u32> for Kind {
     }
 }
 
-// What is asked: a way from the start to the destination.
+// What is asked: a way from the start to the destination. (A struct of its own, so that what reads an input stands on no search.)
 #[derive(Clone, Copy, PartialEq, Eq, Debug)]
 pub struct Request {
     pub kind: Kind,
@@ -40,7 +40,7 @@ pub enum Unread {
 }
 
 impl Unread {
-    // The number that it is refused with.
+    // The number that it is refused with. (A method and no `From`, as in `refusals`.)
     pub fn number(&self) -> u32
         ensures { result ≡ unread_number self.now }
     {

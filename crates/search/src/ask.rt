@@ -44,8 +44,8 @@ fn admit<N: Network, Q: Queue>(
     Ok(())
 }
 
-// That the roads are no more than the cells of the list is said by each of the next three, fit estimate or not: an answer is a number
-// of roads and doesn't know the list.
+// That the roads are no more than the cells of the list (`within`) is said by `told`, `answer` and `ask`, fit estimate or not: an answer
+// is a number of roads and doesn't know the list.
 impl<'a, N: Network, E: Estimate, Q: Queue> Search<'a, N, E, Q> {
     // The answer by the labels of a search for the destination; the roads stand as they are found, from the destination back.
     fn told(&self, list: &mut [u32], question: Question) -> Result<Answer, Refusal>
@@ -92,8 +92,8 @@ impl<'a, N: Network, E: Estimate, Q: Queue> Search<'a, N, E, Q> {
     }
 }
 
-// Asks over the network that is searched; the roads stand as they are found, from the destination back. (It takes the memory in parts:
-// moved on whole, beside a network that stands for less long, the check gives it a new value; by `&mut` it isn't covered.)
+// Asks over the network that is searched; the roads stand as they are found, from the destination back. It takes the memory in parts. (Of
+// a `Memory` that is handed on whole, next to a reference to a network made here, the check no longer knows what it holds.)
 fn ask<'a, N: Network, E: Estimate, Q: Queue>(
     net: &'a N,
     estimate: &'a E,

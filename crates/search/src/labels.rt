@@ -1,4 +1,5 @@
-// The table of labels, one for each place, from place 1 on.
+// The table of labels, one for each place, from place 1 on: 0 for none, else the arrival plus one, since it is lent as words and is zero
+// again after.
 ghost use Rattle.std.specs.Prelude.{◌≡◌, ◌≤◌, length};
 ghost use Rattle.network.specs.Meaning.{Among};
 ghost use Rattle.search.specs.Labels.{Lowers, NearIn, Past, Tells, arrivals_in, goal_arrival, is_near};

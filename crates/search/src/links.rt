@@ -6,6 +6,7 @@ ghost use Rattle.search.specs.LinkWalks.{end_on, link_steps, links_left};
 
 use network::Network;
 
+// Which links of a place: a value, so that one iterator serves both.
 #[derive(Clone, Copy)]
 pub(crate) enum Side {
     Out,

@@ -14,7 +14,7 @@ use crate::work::Search;
 use network::Network;
 use queues::Queue;
 
-// That a tick is one is asked by each method: it is an argument of the question, and no part of what a search works on.
+// That a place or a tick is one is asked by each method: they are arguments of the question, and no part of what a search works on.
 impl<'a, N: Network, E: Estimate, Q: Queue> Search<'a, N, E, Q> {
     // The arrival that a place's label says, or none. (A method, as the next: `&*self.labels` out of a `&mut self` is given a new value
     // by the check, and the proof doesn't close.)

@@ -1,4 +1,5 @@
-// The road list, found backward by the labels of a search.
+// The road list, found backward by the labels of a search. Network and labels are two arguments: a struct of the two would be made for
+// three functions and be taken apart in each.
 ghost use Rattle.std.specs.Prelude.{◌≡◌, ℕ, ◌≤◌, List, length};
 ghost use Rattle.std.specs.Iterator.{at_most};
 ghost use Rattle.journeys.specs.Roads.{Back};

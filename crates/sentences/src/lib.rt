@@ -1,8 +1,6 @@
-// What is said of a book, as values that print themselves.
+// What is said of books and networks, as values that print themselves.
 #![tactic(auto)]
 
-use books::book::Book;
-use books::kinds::BookKind;
 use network::Network;
 use records::layout::{Header, Point};
 use refusals::fault::Fault;
@@ -10,17 +8,17 @@ use std::fmt;
 
 // A link's ends and its floor.
 #[derive(Clone, Copy)]
-pub struct LinkOf<'a, K: BookKind> {
-    pub book: &'a Book<K>,
+pub struct LinkOf<'a, N: Network> {
+    pub network: &'a N,
     pub link: u32,
 }
 
-impl<K: BookKind> fmt::Display for LinkOf<'_, K> {
+impl<N: Network> fmt::Display for LinkOf<'_, N> {
     fn fmt<W: fmt::Write>(&self, f: &mut fmt::Formatter<W>) -> fmt::Result {
         let link = self.link;
-        let tail = self.book.tail(link);
-        let head = self.book.head(link);
-        let floor = self.book.floor(link);
+        let tail = self.network.tail(link);
+        let head = self.network.head(link);
+        let floor = self.network.floor(link);
         write!(
             f,
             "Link {link} leads from place {tail} to place {head} and takes at least {floor} ticks."
