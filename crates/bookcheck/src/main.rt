@@ -12,7 +12,8 @@ use sentences::{Departures, LinkOf, Stray, WordCount};
 use std::io;
 use std::io::Read;
 
-// Its words are its own, and not those of `paircheck`: it knows no kind, and says "1 places".
+// Its words, here and in `explain`, are its own and not those of `paircheck`: it knows no kind, and says "1 places". Links are numbers,
+// so a `for` over numbers goes over them.
 fn describe(rt: &HostRuntime, book: &RoadBook) -> io::Result<()> {
     let places = book.places();
     let links = book.links();
@@ -23,8 +24,10 @@ fn describe(rt: &HostRuntime, book: &RoadBook) -> io::Result<()> {
     )?;
     for link in 1..=links {
         let departures = Departures(book.ends(link));
-        let network = book;
-        let link = LinkOf { network, link };
+        let link = LinkOf {
+            network: book,
+            link,
+        };
         println!(rt; "{link}{departures}")?;
     }
     Ok(())

@@ -34,6 +34,7 @@ pub(crate) fn open_from(closures: &[Closure], link: u32, tick: u32, last: u32) -
 pub(crate) fn open_until(closures: &[Closure], link: u32, tick: u32) -> Option<u32>
     ensures { result ≡ last_open closures.now link tick }
 {
+    // As above, and back: a walk over closures, and no count of ticks.
     let mut t = tick;
     while let Some(closure) = shutting(closures, link, t) {
         t = closure.from.checked_sub(1)?;

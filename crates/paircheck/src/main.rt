@@ -34,20 +34,33 @@ fn describe_counts<N: Network>(
     )
 }
 
-fn describe_roads(rt: &HostRuntime, network: &RoadBook) -> io::Result<()> {
-    describe_counts(rt, Kind::Road, network, network.points())?;
-    for link in 1..=network.links() {
-        let departures = Departures(network.ends(link));
-        println!(rt; "{}{departures}", LinkOf { network, link })?;
+// Links are numbers here and in the next, so a `for` over numbers goes over them; what is said of a link differs.
+fn describe_roads(rt: &HostRuntime, book: &RoadBook) -> io::Result<()> {
+    describe_counts(rt, Kind::Road, book, book.points())?;
+    for link in 1..=book.links() {
+        let departures = Departures(book.ends(link));
+        println!(rt;
+            "{}{departures}",
+            LinkOf {
+                network: book,
+                link
+            }
+        )?;
     }
     Ok(())
 }
 
-fn describe_ferries(rt: &HostRuntime, network: &Timetable) -> io::Result<()> {
-    describe_counts(rt, Kind::Timetable, network, network.points())?;
-    for link in 1..=network.links() {
-        print!(rt; "{}", LinkOf { network, link })?;
-        for (_, sailing) in network.chain(link) {
+fn describe_ferries(rt: &HostRuntime, book: &Timetable) -> io::Result<()> {
+    describe_counts(rt, Kind::Timetable, book, book.points())?;
+    for link in 1..=book.links() {
+        print!(rt;
+            "{}",
+            LinkOf {
+                network: book,
+                link
+            }
+        )?;
+        for (_, sailing) in book.chain(link) {
             print!(rt;
                 " It sails at {}, arriving at {}.",
                 sailing.departure, sailing.arrival
@@ -58,8 +71,8 @@ fn describe_ferries(rt: &HostRuntime, network: &Timetable) -> io::Result<()> {
     Ok(())
 }
 
-// Says what is wrong; a wrong number of words is counted.
-fn explain(rt: &HostRuntime, kind: Kind, fault: Fault, words: WordCount) -> io::Result<()> {
+// Says what is wrong and, of a wrong number of words, how many there are and how many there should be.
+fn explain(rt: &HostRuntime, kind: Kind, fault: Fault, words: &[u32]) -> io::Result<()> {
     let cause = fault.cause;
     let number = cause.number();
     let record = fault.at;
@@ -72,35 +85,30 @@ fn explain(rt: &HostRuntime, kind: Kind, fault: Fault, words: WordCount) -> io::
     if cause != Cause::Length {
         return Ok(());
     }
-    println!(rt; "{words}")
-}
-
-fn explain_roads(rt: &HostRuntime, fault: Fault, words: &[u32]) -> io::Result<()> {
     let count = words.len();
-    let header = RoadBook::header(words);
-    explain(rt, Kind::Road, fault, WordCount { count, header })
+    let header = match kind {
+        Kind::Road => RoadBook::header(words),
+        Kind::Timetable => Timetable::header(words),
+    };
+    println!(rt; "{}", WordCount { count, header })
 }
 
-fn explain_ferries(rt: &HostRuntime, fault: Fault, words: &[u32]) -> io::Result<()> {
-    let count = words.len();
-    let header = Timetable::header(words);
-    explain(rt, Kind::Timetable, fault, WordCount { count, header })
-}
-
-// One book, of the kind that its first word says; a word that says none is taken for a road book's.
+// One book, of the kind that its first word says; a word that says none is taken for a road book's. (Two arms, since the kind comes with
+// the input, and each kind of book is a type of its own.)
 fn check_one(rt: &HostRuntime, words: Vec<u32>) -> anyhow::Result<()> {
     let named = words.first().and_then(|word| Kind::try_from(*word).ok());
-    let refused = match named.unwrap_or(Kind::Road) {
+    let kind = named.unwrap_or(Kind::Road);
+    let refused = match kind {
         Kind::Road => match RoadBook::open(words) {
             Ok(book) => return Ok(describe_roads(rt, &book)?),
-            Err(refused) => explain_roads(rt, refused.fault, refused.words.as_slice()),
+            Err(refused) => refused,
         },
         Kind::Timetable => match Timetable::open(words) {
             Ok(book) => return Ok(describe_ferries(rt, &book)?),
-            Err(refused) => explain_ferries(rt, refused.fault, refused.words.as_slice()),
+            Err(refused) => refused,
         },
     };
-    refused?;
+    explain(rt, kind, refused.fault, refused.words.as_slice())?;
     Err(anyhow!("the book is refused"))
 }
 
@@ -119,9 +127,10 @@ fn check_both(rt: &HostRuntime, roads: Vec<u32>, ferries: Vec<u32>) -> anyhow::R
         Err(refused) => refused,
     };
     match refused.fault {
+        // Which words are at fault goes by the half.
         PairFault::Half { half, fault } => match half {
-            Kind::Road => explain_roads(rt, fault, refused.roads.as_slice())?,
-            Kind::Timetable => explain_ferries(rt, fault, refused.ferries.as_slice())?,
+            Kind::Road => explain(rt, half, fault, refused.roads.as_slice())?,
+            Kind::Timetable => explain(rt, half, fault, refused.ferries.as_slice())?,
         },
         PairFault::Joining(misfit) => {
             let number = misfit.number();

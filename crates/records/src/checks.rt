@@ -40,6 +40,7 @@ impl Link {
 }
 
 impl Point {
+    // (A next point of 0 ends a chain, as the format has it.)
     fn fault(&self, number: u32, header: &Header) -> Option<Fault>
         ensures { result ≡ point_fault header.now number self.now }
     {
@@ -137,8 +138,7 @@ impl Records {
         }
     }
 
-    // The first fault that one check finds. (By `for`, and so the next: of `find_map` the
-    // check found no proof.)
+    // The first fault that one check finds. (This loop and the next are `for`s, since the check found no proof of `find_map`.)
     fn first(&self, check: Check) -> Option<Fault>
         ensures { result ≡ first_of (fault_by (book_of self.now) check) (count_for self.now.header check) }
     {

@@ -13,7 +13,7 @@ pub(crate) enum Side {
     Into,
 }
 
-// The links still to come, in rising order; the next of them is 0 where none is left.
+// The links still to come, in rising order; the next of them is 0 where none is left, as every network says it.
 #[derive(Drop)]
 pub(crate) struct Links<'a, N> {
     net: &'a N,

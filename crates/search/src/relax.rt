@@ -16,8 +16,8 @@ use queues::Queue;
 
 // That a place or a tick is one is asked by each method: they are arguments of the question, and no part of what a search works on.
 impl<'a, N: Network, E: Estimate, Q: Queue> Search<'a, N, E, Q> {
-    // The arrival that a place's label says, or none. (A method, as the next: `&*self.labels` out of a `&mut self` is given a new value
-    // by the check, and the proof doesn't close.)
+    // The arrival that a place's label says, or none. (This and the next are methods, since of labels lent on from behind `&mut self` the
+    // check no longer knows what they hold.)
     fn arrival(&self, place: u32) -> Option<u32>
         ensures { result ≡ arrivals_in self.now.labels.now place }
     {
@@ -88,6 +88,7 @@ impl<'a, N: Network, E: Estimate, Q: Queue> Search<'a, N, E, Q> {
         ensures empty { Empty (Q.Queue.held self.new.queue.now) }
     {
         self.begin(start, tick);
+        // By `while`, since a queue is no iterator: what is taken is held again if its label falls.
         while let Some((key, place)) = self.queue.take() {
             if self.is_past(goal, key) {
                 break;

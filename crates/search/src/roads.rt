@@ -1,5 +1,5 @@
-// The road list, found backward by the labels of a search. Network and labels are two arguments: a struct of the two would be made for
-// three functions and be taken apart in each.
+// The road list, found backward by the labels of a search. Network and labels are two arguments, here and in `seek`: as methods of `Search`
+// these would carry an estimate and a queue besides, which they have no use for.
 ghost use Rattle.std.specs.Prelude.{◌≡◌, ℕ, ◌≤◌, List, length};
 ghost use Rattle.std.specs.Iterator.{at_most};
 ghost use Rattle.journeys.specs.Roads.{Back};

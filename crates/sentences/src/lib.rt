@@ -7,7 +7,7 @@ use refusals::fault::Fault;
 use std::fmt;
 
 // A link's ends and its floor.
-#[derive(Clone, Copy)]
+#[derive(Drop)]
 pub struct LinkOf<'a, N: Network> {
     pub network: &'a N,
     pub link: u32,
@@ -43,7 +43,7 @@ impl fmt::Display for Departures {
     }
 }
 
-// How many bytes at the end of an input make no whole word.
+// How many bytes at the end of an input make no whole word: a line of its own, or nothing where there are none.
 #[derive(Clone, Copy)]
 pub struct Stray(pub usize);
 
