@@ -1,6 +1,4 @@
 // What is said of books and networks, as values that print themselves.
-#![tactic(auto)]
-
 use network::Network;
 use records::layout::{Header, Point};
 use refusals::fault::Fault;
@@ -8,9 +6,9 @@ use std::fmt;
 
 // A link's ends and its floor.
 #[derive(Drop)]
-pub struct LinkOf<'a, N: Network> {
-    pub network: &'a N,
-    pub link: u32,
+pub(crate) struct LinkOf<'a, N: Network> {
+    pub(crate) network: &'a N,
+    pub(crate) link: u32,
 }
 
 impl<N: Network> fmt::Display for LinkOf<'_, N> {
@@ -28,7 +26,7 @@ impl<N: Network> fmt::Display for LinkOf<'_, N> {
 
 // The first and the last departure of a link, if it has any.
 #[derive(Clone, Copy)]
-pub struct Departures(pub Option<(Point, Point)>);
+pub(crate) struct Departures(pub(crate) Option<(Point, Point)>);
 
 impl fmt::Display for Departures {
     fn fmt<W: fmt::Write>(&self, f: &mut fmt::Formatter<W>) -> fmt::Result {
@@ -45,7 +43,7 @@ impl fmt::Display for Departures {
 
 // How many bytes at the end of an input make no whole word: a line of its own, or nothing where there are none.
 #[derive(Clone, Copy)]
-pub struct Stray(pub usize);
+pub(crate) struct Stray(pub(crate) usize);
 
 impl fmt::Display for Stray {
     fn fmt<W: fmt::Write>(&self, f: &mut fmt::Formatter<W>) -> fmt::Result {
@@ -59,9 +57,9 @@ impl fmt::Display for Stray {
 
 // How many words there are of a book that has a wrong number of them, and how many its header gives.
 #[derive(Clone, Copy)]
-pub struct WordCount {
-    pub count: usize,
-    pub header: Result<Header, Fault>,
+pub(crate) struct WordCount {
+    pub(crate) count: usize,
+    pub(crate) header: Result<Header, Fault>,
 }
 
 impl fmt::Display for WordCount {
