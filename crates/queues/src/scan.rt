@@ -83,8 +83,8 @@ fn take_best(keys: &mut [Option<u32>]) -> Option<(u32, u32)>
 fn best(keys: &[Option<u32>]) -> Option<(u32, u32)>
     ensures { BestOf (held_in keys.now) result }
 {
-    (1..=u32::MAX)
-        .zip(keys)
-        .filter_map(|(place, key)| key.map(|key| (key, place)))
-        .min()
+    keys.iter()
+        .enumerate()
+        .filter_map(|(at, key)| Some(((*key)?, u32::try_from(at + 1).ok()?)))
+        .min_by_key(|(key, _)| *key)
 }
