@@ -1,9 +1,10 @@
 // The records by number. One that isn't there is all zero.
-ghost use Rattle.std.specs.Prelude.{◌≡◌};
+ghost use Rattle.std.specs.Prelude.{◌≡◌, length};
 ghost use Rattle.records.specs.Contents.{end_of, lowest_after};
+ghost use Rattle.records.specs.Layout.{link_at, size};
 ghost use Rattle.records.specs.Reading.{book_of};
 
-use crate::layout::{End, Link, Place, Point};
+use crate::layout::{End, Header, Link, Place, Point};
 use crate::records::Records;
 use network::among;
 
@@ -23,23 +24,10 @@ impl Records {
         }
     }
 
-    #[tactic(auto, unfolding(crate::specs::Layout::link_at))]
     pub fn link(&self, number: u32) -> Link
         ensures { result ≡ (book_of self.now).link number }
     {
-        if !among(number, self.header.links) {
-            return Link::default();
-        }
-        let words = self.words.as_slice();
-        let at = 5 + 2 * self.header.places as usize + 6 * (number as usize - 1);
-        Link {
-            tail: words[at],
-            head: words[at + 1],
-            next_out: words[at + 2],
-            next_in: words[at + 3],
-            floor: words[at + 4],
-            first_point: words[at + 5],
-        }
+        link_in(self.words.as_slice(), self.header, number)
     }
 
     #[tactic(auto, unfolding(crate::specs::Layout::point_at))]
@@ -65,9 +53,31 @@ impl Records {
     pub(crate) fn lowest(&self, end: End, place: u32, after: u32) -> u32
         ensures { result ≡ lowest_after (book_of self.now) end place after }
     {
-        (after..self.header.links)
-            .find(|below| self.link(below + 1).end(end) == place)
+        let words = self.words.as_slice();
+        let header = self.header;
+        (after..header.links)
+            .find(|below| link_in(words, header, below + 1).end(end) == place)
             .map_or(0, |below| below + 1)
+    }
+}
+
+// A link's record by number. (Words and header are two arguments and no `Records`, so that a scan keeps both in registers.)
+#[tactic(auto, unfolding(crate::specs::Layout::link_at))]
+fn link_in(words: &[u32], header: Header, number: u32) -> Link
+    requires { length words.now ≡ size header }
+    ensures { result ≡ link_at header words.now number }
+{
+    if !among(number, header.links) {
+        return Link::default();
+    }
+    let at = 5 + 2 * header.places as usize + 6 * (number as usize - 1);
+    Link {
+        tail: words[at],
+        head: words[at + 1],
+        next_out: words[at + 2],
+        next_in: words[at + 3],
+        floor: words[at + 4],
+        first_point: words[at + 5],
     }
 }
 
