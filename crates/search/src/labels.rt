@@ -43,9 +43,12 @@ fn is_near<E: Estimate>(estimate: &E, labels: &[u32], place: u32, limit: Option<
     let Some(tick) = arrival(labels, place) else {
         return false;
     };
-    // in 64 bits, where no sum wraps
-    let near = u64::from(tick) + u64::from(estimate.ahead(place));
-    limit.is_none_or(|limit| near <= u64::from(limit))
+    // The estimate is asked only where there is a limit.
+    limit.is_none_or(|limit| {
+        // in 64 bits, where no sum wraps
+        let near = u64::from(tick) + u64::from(estimate.ahead(place));
+        near <= u64::from(limit)
+    })
 }
 
 // How many of the first places have a label that is, with the estimate, within a limit.

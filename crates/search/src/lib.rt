@@ -6,6 +6,7 @@ pub mod estimate;
 mod labels;
 mod links;
 pub mod memory;
+pub mod parts;
 pub mod question;
 mod relax;
 mod roads;
