@@ -3,8 +3,9 @@ use Rattle.std.proofs.Common.{◌≡◌, ℕ, zero, suc, ◌+◌, ◌-◌, ◌<�
 use Rattle.std.proofs.lemmas.Bool.{lt-leb, ltb-false, eq-eqb, or_parts, cond-false}
 use Rattle.std.proofs.lemmas.List.{drop-replicate}
 use Rattle.std.proofs.lemmas.Grind.{common_steps}
+use Rattle.std.proofs.lemmas.List.Elements.{All-append}
 use Rattle.network.specs.Meaning.{Meaning, IsLink}
-use Rattle.marks.specs.Columns.{number, Sound, AllSound}
+use Rattle.marks.specs.Columns.{number, Sound, AllSound, IsSmall}
 use Rattle.marks.specs.Offers.{some_above, offer_refusal, breaks, kept, Offered}
 
 -- no number is above the last tick
@@ -12,6 +13,20 @@ pub none_above : (last : ℕ) (column : List ℕ) → some_above last column ≡
 none_above last [] e i = omega arith
 none_above last (x ∷ xs) e zero = ltb-false last x (or_parts _ _ e).0
 none_above last (x ∷ xs) e (suc i) = none_above last xs (or_parts _ _ e).1 i
+
+-- then they are all small, where the last tick is
+pub small_column : (last : ℕ) (column : List ℕ) → last ≤ 604800 → some_above last column ≡ false → IsSmall column
+small_column last [] h e k d l = absurd (omega arith)
+small_column last (x ∷ xs) h e zero d l = omega (arith, ltb-false last x (or_parts _ _ e).0)
+small_column last (x ∷ xs) h e (suc k) d l = small_column last xs h (or_parts _ _ e).1 k d (omega arith)
+
+pub small_zeros : (n : ℕ) → IsSmall (replicate n 0)
+small_zeros zero k d l = absurd (omega arith)
+small_zeros (suc n) zero d l = omega arith
+small_zeros (suc n) (suc k) d l = small_zeros n k d (omega arith)
+
+pub small_kept : (column : List ℕ) → IsSmall column → IsSmall (kept column)
+small_kept column small = All-append (λ n. n ≤ 604800) column (replicate (1024 - length column) 0) small (small_zeros (1024 - length column))
 
 -- a column copied to the front of zeros
 pub padded_is : (column copied : List ℕ) → copied ≡ column → copied ++ drop (length column) (replicate 1024 0) ≡ kept column

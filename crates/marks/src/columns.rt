@@ -39,7 +39,7 @@ fn breaks<N: Network>(net: &N, column: &[u32], link: u32) -> bool
 {
     let low = number(column, net.tail(link));
     let high = number(column, net.head(link));
-    high.saturating_sub(low) > net.floor(link)
+    high > low && high - low > net.floor(link)
 }
 
 // A link along which it does.

@@ -1,30 +1,32 @@
 // Up to four columns in fixed memory.
-ghost use Rattle.std.specs.Prelude.{◌≡◌, [], length};
+ghost use Rattle.std.specs.Prelude.{◌≡◌, ◌<◌, ◌≤◌, [], ◌∷◌, ◌++◌, length};
+ghost use Rattle.marks.specs.Columns.{IsSmall};
 ghost use Rattle.marks.specs.Estimates.{lead};
-ghost use Rattle.marks.specs.Offers.{after_offer, Offered};
+ghost use Rattle.marks.specs.Offers.{kept, after_offer, Offered};
 
 use crate::columns::{above, broken, number, padded};
-use arrayvec::ArrayVec;
 use network::Network;
 use refusals::column::ColumnRefusal;
 use std::marker::Model;
 
-// A column has a number for each place, from place 1 on, and 0 after them.
+// A column has a number for each place, from place 1 on, and 0 after them. The first `count` are held. (By hand and no `ArrayVec`, which
+// writes a blank over each element that it drops: here that would be 4 KiB for each mark.)
 #[derive(Drop)]
 pub struct Marks {
-    pub(crate) columns: ArrayVec<[u32; 1024], 4>,
+    pub(crate) columns: [[u32; 1024]; 4],
+    pub(crate) count: usize,
 }
 
 // They are the list of their columns, in the order in which they were taken.
 impl Model for Marks {
-    ghost use Rattle.std.specs.Prelude.{ℕ, List};
+    ghost use Rattle.std.specs.Prelude.{◌≡◌, ℕ, ◌≤◌, List, length, take};
     ghost use Rattle.marks.specs.Columns.{AllSmall};
 
     ghost Value = { List (List ℕ) };
 
-    ghost view = { λ m. m.columns.items };
+    ghost view = { λ m. take m.count m.columns };
 
-    ghost invariant = { λ m. AllSmall m.columns.items };
+    ghost invariant = { λ m. (m.count ≤ 4) × (length m.columns ≡ 4) × AllSmall m.columns };
 }
 
 impl Marks {
@@ -32,21 +34,25 @@ impl Marks {
         ensures { result ≡ [] }
     {
         Marks {
-            columns: ArrayVec::new(),
+            columns: [[0; 1024]; 4],
+            count: 0,
         }
     }
 
     pub fn count(&self) -> usize
-        ensures { result ≡ length self.now }
+        ensures value { result ≡ length self.now }
+        ensures within { result ≤ 4 }
     {
-        self.columns.len()
+        self.count
     }
 
     // The columns that are held.
     pub fn columns(&self) -> &[[u32; 1024]]
-        ensures { result.now ≡ self.now }
+        ensures columns { result.now ≡ self.now }
+        ensures within { length result.now ≤ 4 }
     {
-        &self.columns
+        let columns = &self.columns[..];
+        &columns[..self.count]
     }
 
     // Takes a column for a mark, if it has a number for each place, none of them above the last tick, and along each link rises by at
@@ -55,7 +61,7 @@ impl Marks {
         ensures reply { Offered (N.Network.meaning net.now) self.old column.now result }
         ensures columns { self.new ≡ after_offer self.old column.now result }
     {
-        if self.columns.is_full() {
+        if self.count == 4 {
             return Err(ColumnRefusal::TooManyMarks);
         }
         if column.len() != net.places() as usize {
@@ -67,15 +73,26 @@ impl Marks {
         if let Some(link) = broken(net, column) {
             return Err(ColumnRefusal::BrokenRule { link });
         }
-        self.columns.push(padded(column));
+        self.lay(column);
         Ok(())
+    }
+
+    // Keeps a column.
+    fn lay(&mut self, column: &[u32])
+        requires room { length self.old < 4 }
+        requires fits { length column.now ≤ 1024 }
+        requires small { IsSmall column.now }
+        ensures { self.new ≡ self.old ++ kept column.now ∷ [] }
+    {
+        self.columns[self.count] = padded(column);
+        self.count += 1;
     }
 
     // The most ticks that a mark shows between two places.
     pub fn lead(&self, to: u32, from: u32) -> u32
         ensures { result ≡ lead self.now to from }
     {
-        self.columns.iter().fold(0, |most: u32, column| {
+        self.columns().iter().fold(0, |most: u32, column| {
             most.max(number(column, to).saturating_sub(number(column, from)))
         })
     }
@@ -84,6 +101,6 @@ impl Marks {
     pub fn clear(&mut self)
         ensures { self.new ≡ [] }
     {
-        self.columns.clear();
+        self.count = 0;
     }
 }
