@@ -1,5 +1,5 @@
 // The closures that stand, and the arrivals that they leave.
-ghost use Rattle.std.specs.Prelude.{◌≡◌, [], position};
+ghost use Rattle.std.specs.Prelude.{◌≡◌, ◌≤◌, [], length, position};
 ghost use Rattle.notices.specs.Refusals.{refusal_in};
 ghost use Rattle.notices.specs.Calls.{up_refusal, up_after, down_refusal, down_after};
 ghost use Rattle.notices.specs.Closures.{same, closed};
@@ -40,7 +40,8 @@ impl Closures {
 
     // All that stand, in the order in which they were put up.
     pub fn standing(&self) -> &[Closure]
-        ensures { result.now ≡ self.now }
+        ensures closures { result.now ≡ self.now }
+        ensures within { length result.now ≤ 32 }
     {
         &self.standing
     }

@@ -1,5 +1,5 @@
 // The delays that stand, and the arrivals that they make later.
-ghost use Rattle.std.specs.Prelude.{◌≡◌, [], position};
+ghost use Rattle.std.specs.Prelude.{◌≡◌, ◌≤◌, [], length, position};
 ghost use Rattle.notices.specs.Refusals.{refusal_in};
 ghost use Rattle.notices.specs.Calls.{set_refusal, set_after, clear_refusal, clear_after};
 ghost use Rattle.notices.specs.Delays.{on_link, delay_on, delayed};
@@ -39,7 +39,8 @@ impl Delays {
 
     // All that stand, in the order in which their links were first delayed.
     pub fn standing(&self) -> &[Delay]
-        ensures { result.now ≡ self.now }
+        ensures delays { result.now ≡ self.now }
+        ensures within { length result.now ≤ 32 }
     {
         &self.standing
     }

@@ -12,5 +12,5 @@ pub returns : goal.returns
 returns g c =
     let below = c.args.below.now in
     c.open_until.ensures
-    ∙ ap (λ cs. last_open cs c.args.link c.in_ok-latest.latest) c.standing.ensures
+    ∙ ap (λ cs. last_open cs c.args.link c.in_ok-latest.latest) c.standing.ensures.closures
     ∙ latest_closed c.args.self.now (g.N.Network.meaning below) (g.met.N.Network.lawful below) c.args.link c.args.tick (Some c.in_ok-latest.latest) c.in_ok-latest.ensures
