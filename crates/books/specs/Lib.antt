@@ -5,6 +5,7 @@ pub mod Networks
 pub mod Opened
 pub mod Pairs
 pub mod Sound
+pub mod Any
 pub mod Timed
 pub mod Driving
 pub mod Lines

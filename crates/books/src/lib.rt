@@ -1,6 +1,7 @@
 // Road books and timetables: words that obey every rule of their kind, opened, and then a network.
 #![tactic(auto)]
 
+pub mod any;
 pub mod book;
 mod kinds;
 mod net;

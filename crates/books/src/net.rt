@@ -43,6 +43,7 @@ impl<K: BookKind> Network for Book<K> {
         self.records.link(link).floor
     }
 
+    #[tactic(auto, using(crate::specs::Sound::ordered))]
     fn arrival(&self, link: u32, tick: u32) -> Option<u32> {
         if tick > self.records.header.last {
             return None;
@@ -50,6 +51,7 @@ impl<K: BookKind> Network for Book<K> {
         K::arrival(self.records.chain(link), tick)
     }
 
+    #[tactic(auto, using(crate::specs::Sound::ordered))]
     fn latest_departure(&self, link: u32, tick: u32) -> Option<u32> {
         if tick > self.records.header.last {
             return None;

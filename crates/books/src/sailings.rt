@@ -22,7 +22,7 @@ impl BookKind for Sailings {
         points
             .filter(|(_, sailing)| tick <= sailing.departure)
             .map(|(_, sailing)| sailing.arrival)
-            .min()
+            .reduce(|least, arrival| least.min(arrival))
     }
 
     fn latest_departure(points: Chain<'_>, tick: u32) -> Option<u32> {

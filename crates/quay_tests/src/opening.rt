@@ -1,7 +1,9 @@
 // The Quay book and damaged copies of it, run through the code.
 use books::RoadBook;
+use books::any::AnyBook;
 use network::Network;
-use quay::{changed, words};
+use quay::{changed, ferry_words, words};
+use records::kind::Kind;
 use refusals::fault::{Cause, Fault, Record};
 use std::alloc::{AllocError, Global};
 use std::test::Fail;
@@ -162,6 +164,22 @@ fn links_may_share_points_and_points_may_be_idle(rt: HostRuntime) -> Result<(), 
     let book = RoadBook::open(shared)?;
     assert_eq!(rt; book.arrival(4, 0), Some(30));
     assert_eq!(rt; book.arrival(4, 40), book.arrival(3, 40));
+    Ok(())
+}
+
+#[test]
+fn the_kind_of_a_book_may_come_with_the_input(rt: HostRuntime) -> Result<(), Fail> {
+    let quay = AnyBook::open(Kind::Road, words().to_vec(rt.alloc())?)?;
+    assert_eq!(rt; quay.kind(), Kind::Road);
+    assert_eq!(rt; quay.arrival(1, 20), Some(40));
+    let ferry = AnyBook::open(Kind::Timetable, ferry_words().to_vec(rt.alloc())?)?;
+    assert_eq!(rt; ferry.kind(), Kind::Timetable);
+    assert_eq!(rt; ferry.arrival(1, 20), Some(30));
+    let cause = match AnyBook::open(Kind::Timetable, words().to_vec(rt.alloc())?) {
+        Ok(_) => None,
+        Err(refused) => Some(refused.fault.cause),
+    };
+    assert_eq!(rt; cause, Some(Cause::Kind));
     Ok(())
 }
 

@@ -6,7 +6,7 @@ use refusals::refusal::Refusal;
 use search::estimate::NoEstimate;
 use search::memory::Memory;
 use search::question::{Answer, Question};
-use search::{arrive_by, depart_at};
+use search::{arrive_by, depart_at, parts};
 use std::alloc::{AllocError, Global};
 use std::test::Fail;
 
@@ -129,5 +129,47 @@ fn the_lowest_link_wins_though_found_last(rt: HostRuntime) -> Result<(), Fail> {
         })
     );
     assert_eq!(rt; list.as_slice(), [3, 1, 7].as_slice());
+    Ok(())
+}
+
+// How soon one is at place 3 when one leaves place 1 at 0, and how late one may leave to be there by 45, asked one after the other.
+fn soon_and_late(
+    book: &RoadBook,
+    queue: &mut ScanQueue,
+    table: &mut [u32],
+    list: &mut [u32],
+) -> (Result<Answer, Refusal>, Result<Answer, Refusal>) {
+    let mut question = Question {
+        start: 1,
+        destination: 3,
+        tick: 0,
+    };
+    let soon = parts::depart_at(book, &NoEstimate, queue, table, list, question);
+    question.tick = 45;
+    let late = parts::arrive_by(book, &NoEstimate, queue, table, list, question);
+    (soon, late)
+}
+
+#[test]
+fn two_questions_are_asked_with_the_same_three_parts(rt: HostRuntime) -> Result<(), Fail> {
+    let book = RoadBook::open(words().to_vec(rt.alloc())?)?;
+    let mut queue = ScanQueue::new(vec![in rt.alloc(); None; 3]?);
+    let (soon, late) = soon_and_late(&book, &mut queue, &mut [7; 3], &mut [7; 3]);
+    assert_eq!(rt;
+        soon,
+        Ok(Answer::Found {
+            tick: 26,
+            roads: 2,
+            taken: 3,
+        })
+    );
+    assert_eq!(rt;
+        late,
+        Ok(Answer::Found {
+            tick: 23,
+            roads: 1,
+            taken: 3,
+        })
+    );
     Ok(())
 }

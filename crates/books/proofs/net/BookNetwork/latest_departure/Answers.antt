@@ -1,15 +1,10 @@
-use Rattle.std.proofs.Common.{List, None, sym, ap, subst, ◌∙◌}
+use Rattle.std.proofs.Common.{sym, ap, ◌∙◌}
 use Rattle.records.specs.declared.kind.Kind.{Kind}
-use Rattle.records.specs.declared.layout.Point.{Point}
 use Rattle.records.specs.Contents.{unnumbered, points_of}
-use Rattle.records.specs.Rules.{Ordered}
 use Rattle.books.specs.Networks.{back_by}
 use Rattle.books.specs.Opened.{open_book}
-use Rattle.books.specs.Sound.{sound, ordered, latest_back}
+use Rattle.books.specs.Sound.{sound, latest_back}
 use Rattle.books.proofs.net.BookNetwork.latest_departure.Goals as goal
-
-pub latest_departure-requires : goal.latest_departure-requires
-latest_departure-requires g c = subst (λ (ps : List Point). Ordered g.K.BookKind.kind None ps) (sym (ap unnumbered c.chain.ensures)) (ordered c.args.self.now c.args.link)
 
 pub returns : goal.returns
 returns g c =
