@@ -200,6 +200,10 @@ module _ (net : Meaning) (law : Laws net) (s t : ℕ) where
   arrivals_settled : IsPlace net s → t ≤ net.last → Settled (arrivals net s t)
   arrivals_settled place tl = settles (suc (total net.last (start net s t))) (start net s t) (start_sound place tl) (omega arith)
 
+  -- the table has an entry for each place
+  pub arrivals_long : IsPlace net s → t ≤ net.last → length (arrivals net s t) ≡ suc net.places
+  arrivals_long place tl = (arrivals_settled place tl).0.long
+
   pub exact : IsPlace net s → t ≤ net.last → (v : ℕ) → Earliest net s t v (earliest net s t v)
   exact place tl v = settled_earliest (arrivals net s t) (arrivals_settled place tl) v
 

@@ -48,12 +48,14 @@ impl<N: Network> Network for Turned<N> {
         self.below.floor(link)
     }
 
+    #[tactic(auto, using(journeys::proofs::Turning::latest_within))]
     fn arrival(&self, link: u32, tick: u32) -> Option<u32> {
         let last = self.below.last_tick();
         let departure = self.below.latest_departure(link, last.checked_sub(tick)?)?;
         Some(last - departure)
     }
 
+    #[tactic(auto, using(journeys::proofs::Turning::any_within, journeys::proofs::Turning::latest_turned))]
     fn latest_departure(&self, link: u32, tick: u32) -> Option<u32> {
         let last = self.below.last_tick();
         let arrival = self.below.arrival(link, last.checked_sub(tick)?)?;
