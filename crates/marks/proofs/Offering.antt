@@ -3,7 +3,7 @@ use Rattle.std.proofs.Common.{◌≡◌, ℕ, zero, suc, ◌+◌, ◌-◌, ◌<�
 use Rattle.std.proofs.lemmas.Bool.{lt-leb, ltb-false, eq-eqb, or_parts, cond-false}
 use Rattle.std.proofs.lemmas.List.{drop-replicate}
 use Rattle.std.proofs.lemmas.Grind.{common_steps}
-use Rattle.std.proofs.lemmas.List.Elements.{All-append}
+use Rattle.std.proofs.lemmas.List.Elements.{All-append, All-replicate}
 use Rattle.network.specs.Meaning.{Meaning, IsLink}
 use Rattle.marks.specs.Columns.{number, Sound, AllSound, IsSmall}
 use Rattle.marks.specs.Offers.{some_above, offer_refusal, breaks, kept, Offered}
@@ -21,9 +21,7 @@ small_column last (x ∷ xs) h e zero d l = omega (arith, ltb-false last x (or_p
 small_column last (x ∷ xs) h e (suc k) d l = small_column last xs h (or_parts _ _ e).1 k d (omega arith)
 
 pub small_zeros : (n : ℕ) → IsSmall (replicate n 0)
-small_zeros zero k d l = absurd (omega arith)
-small_zeros (suc n) zero d l = omega arith
-small_zeros (suc n) (suc k) d l = small_zeros n k d (omega arith)
+small_zeros n = All-replicate (λ number. number ≤ 604800) n 0 (omega arith)
 
 pub small_kept : (column : List ℕ) → IsSmall column → IsSmall (kept column)
 small_kept column small = All-append (λ n. n ≤ 604800) column (replicate (1024 - length column) 0) small (small_zeros (1024 - length column))
